@@ -1,13 +1,11 @@
 -- What is done down the parts of a key below the place of a group is done to the group there.
-use Rattle.std.proofs.Common.{◌≡◌, ℕ, Bool, true, false, cond, ◌&&◌, ◌||◌, not, List, [], ◌∷◌, ◌++◌, Option, Some, None, Result, Ok, Err, refl, sym, ap, ap₂, ◌∙◌}
-use Rattle.asound_conf.specs.declared.error.ConfWhy.{ConfWhy}
-use Rattle.asound_conf.specs.declared.error.ConfWhy.TheVariants as why
+use Rattle.asound_conf.specs.Prelude.{ap, ap₂, Bool, cond, Err, false, List, None, not, Ok, Option, refl, Result, Some, sym, true, ℕ, [], ◌&&◌, ◌++◌, ◌||◌, ◌∙◌}
+use Rattle.asound_conf.specs.Prelude.{◌∷◌, ◌≡◌, ConfWhy, answer_view, base, clashes, is_last, meets_text, node_at, node_met, put, put_or_clash, Entries, get}
+use Rattle.asound_conf.specs.Prelude.{group, group_in, text, Tree}
 use Rattle.asound_conf.specs.Key.{Part, part_named}
-use Rattle.asound_conf.specs.Answer.{answer_view}
-use Rattle.asound_conf.specs.Place.{base, clashes, is_last, meets_text, node_met, node_at, put_or_clash, put}
-use Rattle.asound_conf.specs.Tree.{Tree, text, group, Entries, get, group_in}
-use Rattle.asound_conf.specs.Tree as tree
 use Rattle.asound_conf.proofs.Places.{get-set, set-set}
+use Rattle.asound_conf.specs.declared.error.ConfWhy.TheVariants as why
+use Rattle.asound_conf.specs.Tree as tree
 
 -- the group that a node is
 abbrev pub inner_group : Option Tree → Option Entries

@@ -1,23 +1,13 @@
 -- What the functions of a table change, by the cells that they read and write.
-use Rattle.std.proofs.Common.{◌≡◌, ℕ, zero, suc, ◌<◌, ◌^◌, true, false, List, [], ◌∷◌, ◌++◌, length, get_or, set, Option, Some, refl, sym, ap, ◌∙◌, arith, inl, inr, length-append, length-set}
-use Rattle.std.specs.Prelude.{◌==◌, map, is_none}
-use Rattle.std.specs.Str.{bytes_eq}
-use Rattle.std.specs.Fmt.{decimal}
-use Rattle.std.proofs.lemmas.Bool.{cases_eq, cases_lt, false≢true}
-use Rattle.std.proofs.lemmas.Bool.Decides.{nat_tests, same_from_decides}
-use Rattle.std.proofs.lemmas.Fmt.{decimal_injective}
-use Rattle.std.proofs.lemmas.Grind.{get_or-set_at}
-use Rattle.std.proofs.lemmas.List.{get_or-set_other, get_or_default, get_or_read, length-map}
-use Rattle.std.proofs.lemmas.Slice.Eq.{bytes_eq-Decides}
-use Rattle.asound_conf.specs.declared.cell.Span.{Span}
-use Rattle.asound_conf.specs.declared.cell.Name.{Name}
-use Rattle.asound_conf.specs.declared.cell.Name.TheVariants as names
-use Rattle.asound_conf.specs.declared.cell.Content.{Content}
-use Rattle.asound_conf.specs.declared.cell.Content.TheVariants as contents
-use Rattle.asound_conf.specs.declared.cell.Cell.{Cell}
-use Rattle.asound_conf.specs.Rows.{Contents, ConfRow, row_at, with_row}
-use Rattle.asound_conf.specs.Table.{IsIndexed, IsLink, IsTable, bucket_at, bucket_of, cell_at, content_of, contents_of, fits, is_live, name_in, new_row, no_cell, no_number, content_with, parent_of, removed_row, cell_row, span_in, value_in}
+use Rattle.asound_conf.specs.Prelude.{ap, arith, false, get_or, inl, inr, is_none, length, length-append, List, map, Option, refl, set, Some, suc, sym, true}
+use Rattle.asound_conf.specs.Prelude.{zero, ℕ, [], ◌++◌, ◌<◌, ◌^◌, ◌∙◌, ◌∷◌, ◌≡◌, cases_eq, cases_lt, false≢true, nat_tests, same_from_decides}
+use Rattle.asound_conf.specs.Prelude.{decimal_injective, get_or-set_at, get_or-set_other, get_or_default, get_or_read, length-map, length-set, bytes_eq-Decides}
+use Rattle.asound_conf.specs.Prelude.{decimal, ◌==◌, bytes_eq, Cell, Content, Name, Span, ConfRow, Contents, row_at, with_row, bucket_at, bucket_of, cell_at}
+use Rattle.asound_conf.specs.Prelude.{cell_row, content_of, content_with, contents_of, fits, is_live, IsIndexed, IsLink, IsTable, name_in, new_row, no_cell}
+use Rattle.asound_conf.specs.Prelude.{no_number, parent_of, removed_row, span_in, value_in}
 use Rattle.asound_conf.proofs.Tables.{IsNew, IsNoted, IsSame, IsTable-push, IsTable-set, cell_at-push, is_live-noted, row_at-map, row_is, rows-push, rows-set}
+use Rattle.asound_conf.specs.declared.cell.Name.TheVariants as names
+use Rattle.asound_conf.specs.declared.cell.Content.TheVariants as contents
 
 -- numbers are the same where their decimal texts are
 pub bytes_eq-numbers : (m n : ℕ) → m < 2 ^ 32 → n < 2 ^ 32 → (m == n) ≡ bytes_eq (decimal m) (decimal n)

@@ -1,12 +1,8 @@
 -- How many nodes a group has.
-use Rattle.std.proofs.Common.{◌≡◌, ℕ, zero, suc, ◌+◌, Bool, true, false, cond, List, [], ◌∷◌, drop, refl, sym, ap, ◌∙◌, arith}
-use Rattle.std.specs.Prelude.{count_by, map, if◌then◌else◌}
+use Rattle.asound_conf.specs.Prelude.{ap, arith, Bool, cond, drop, false, List, map, refl, suc, sym, true, zero, ℕ, [], ◌+◌, ◌∙◌, ◌∷◌, ◌≡◌, count_by}
+use Rattle.asound_conf.specs.Prelude.{if◌then◌else◌, Cell, count_of_names, ConfRow, Contents, group_in_rows, group_of, is_in, node, cell_row, contents_of}
+use Rattle.asound_conf.specs.Prelude.{parent_of, entry}
 use Rattle.std.proofs.lemmas.List.Sums.{sum_by-cons}
-use Rattle.asound_conf.specs.declared.cell.Cell.{Cell}
-use Rattle.asound_conf.specs.Device.{count_of_names}
-use Rattle.asound_conf.specs.Rows.{Contents, ConfRow, group_of, is_in, node, group_in_rows}
-use Rattle.asound_conf.specs.Table.{contents_of, parent_of, cell_row}
-use Rattle.asound_conf.specs.Tree.{entry}
 
 -- a cell is a node of a group
 abbrev pub counts : ℕ → Cell → Bool

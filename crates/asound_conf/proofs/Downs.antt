@@ -1,21 +1,14 @@
 -- The steps down the parts of a key as the code takes them: the first part, and the rest of a slice.
-use Rattle.std.proofs.Common.{◌≡◌, ℕ, ◌-◌, ◌<◌, ◌≤◌, true, false, cond, ◌||◌, List, [], ◌∷◌, ◌++◌, length, get_or, take, drop, is_none, Option, Some, None, Result, Ok, Err, IfOk, refl, sym, ap, ap₂, ◌∙◌, subst, arith, append_assoc}
-use Rattle.std.proofs.lemmas.List.{nil_from_length, take_all}
-use Rattle.asound_conf.specs.declared.cell.Name.TheVariants as names
-use Rattle.asound_conf.specs.declared.cell.Span.{Span}
-use Rattle.asound_conf.specs.declared.error.ConfWhy.{ConfWhy}
-use Rattle.asound_conf.specs.declared.part.Part as code
-use Rattle.asound_conf.specs.Answer.{Leads, Refuses}
+use Rattle.asound_conf.specs.Prelude.{ap, append_assoc, ap₂, arith, cond, drop, Err, false, get_or, IfOk, is_none, length, List, None, Ok, Option, refl, Result}
+use Rattle.asound_conf.specs.Prelude.{Some, subst, sym, take, true, ℕ, [], ◌++◌, ◌-◌, ◌<◌, ◌||◌, ◌∙◌, ◌∷◌, ◌≡◌, ◌≤◌, nil_from_length, take_all, Span, ConfWhy}
+use Rattle.asound_conf.specs.Prelude.{Leads, Refuses, part_in, parts_in, text_in, base, is_last, meets_text, node_met, put_or_clash, Alters, ConfRow, Contents}
+use Rattle.asound_conf.specs.Prelude.{group_of, IsAbsent, IsNode, node, row_at, name_in, Entries, get, group, group_in, is_text, Tree, IsKeyStep, IsWay}
 use Rattle.asound_conf.specs.Key.{Part, part_named, without_marks}
-use Rattle.asound_conf.specs.Parts.{part_in, parts_in, text_in}
-use Rattle.asound_conf.specs.Place.{base, is_last, meets_text, node_met, put_or_clash}
-use Rattle.asound_conf.specs.Rows.{Contents, ConfRow, Alters, IsAbsent, IsNode, group_of, node, row_at}
-use Rattle.asound_conf.specs.Table.{name_in}
-use Rattle.asound_conf.specs.Tree.{Tree, group, Entries, get, group_in, is_text}
-use Rattle.asound_conf.specs.Way.{IsKeyStep, IsWay}
 use Rattle.asound_conf.proofs.Groups.{Alters-both, get-IsAbsent, get-IsNode}
 use Rattle.asound_conf.proofs.Puts.{IsLed, led, meets_text-empty, meets_text-further, meets_text-one, meets_text-rest, put-down, put-last, put-last-way, put-refused}
 use Rattle.asound_conf.proofs.Ways.{IsWay-kept, IsWay-more}
+use Rattle.asound_conf.specs.declared.cell.Name.TheVariants as names
+use Rattle.asound_conf.specs.declared.part.Part as code
 
 -- what is beside the parts of a slice
 abbrev pub no_part : code.Part

@@ -1,8 +1,6 @@
 -- A device that is read in steps is read as field by field.
-use Rattle.std.proofs.Common.{◌≡◌, ℕ, List, codes, refl, Result, Ok, Err}
-use Rattle.asound_conf.specs.declared.error.ConfWhy.{ConfWhy}
-use Rattle.asound_conf.specs.Device.{◌>>=◌, definition_of, device_slave, device_kind, format_of, field, field_pair, slave_numbers, slave_card, device_in, device_by}
-use Rattle.asound_conf.specs.Tree.{Entries, get}
+use Rattle.asound_conf.specs.Prelude.{codes, Err, List, Ok, refl, Result, ℕ, ◌≡◌, ConfWhy, definition_of, device_by, device_in, device_kind, device_slave}
+use Rattle.asound_conf.specs.Prelude.{field, field_pair, format_of, slave_card, slave_numbers, ◌>>=◌, Entries, get}
 
 -- after a value, what follows may be said in another way
 same_after : {A B : Type 0} (r : Result A ConfWhy) (f g : A → Result B ConfWhy) → ((x : A) → f x ≡ g x) → (r >>= f) ≡ (r >>= g)

@@ -1,11 +1,9 @@
 -- What the first byte of a text says of the token there, and of its end.
-use Rattle.std.proofs.Common.{◌⊎◌, sym, ◌≡◌, ℕ, true, false, List, take, drop, Option, Some, None, refl, ap, ◌∙◌, arith, inl, inr}
-use Rattle.std.specs.Prelude.{◌==◌, is_none, slice_index}
-use Rattle.std.proofs.lemmas.Bool.{and_parts, cases_Bool, false_from_ne_true, false≢true, cond-false, cond-true, not-true, or_cases, or_parts}
-use Rattle.std.proofs.lemmas.Bool.Decides.{nat_tests}
+use Rattle.asound_conf.specs.Prelude.{ap, arith, drop, false, inl, inr, is_none, List, None, Option, refl, Some, sym, take, true, ℕ, ◌∙◌, ◌≡◌, ◌⊎◌, and_parts}
+use Rattle.asound_conf.specs.Prelude.{cases_Bool, cond-false, cond-true, false_from_ne_true, false≢true, not-true, or_cases, or_parts, nat_tests, slice_index}
+use Rattle.asound_conf.specs.Prelude.{◌==◌, Mark, bad, end_at, ends_word, is_quote, is_skipped, is_word_byte, mark, mark_of, mark_or, quoted_size, quoted_token}
+use Rattle.asound_conf.specs.Prelude.{Token, token_at, token_end, word}
 use Rattle.asound_conf.specs.declared.error.ConfWhy.TheVariants as why
-use Rattle.asound_conf.specs.declared.token.Mark.{Mark}
-use Rattle.asound_conf.specs.Token.{Token, word, mark, bad, end_at, ends_word, is_quote, is_skipped, is_word_byte, mark_of, mark_or, quoted_size, quoted_token, token_at, token_end}
 
 is_none-true : (m : Option Mark) → is_none m ≡ true → m ≡ None
 is_none-true None is = refl

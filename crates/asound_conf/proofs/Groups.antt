@@ -1,14 +1,12 @@
 -- The groups of rows by their numbers: what is found in them, and what one row more or another row changes.
-use Rattle.std.proofs.Common.{◌≡◌, ℕ, zero, suc, ◌+◌, ◌<◌, ◌≤◌, ◌-◌, true, false, cond, List, [], ◌∷◌, ◌++◌, length, drop, Some, None, refl, sym, ap, ap₂, ◌∙◌, arith, inl, inr}
-use Rattle.std.proofs.lemmas.Bool.{cases_Bool}
-use Rattle.std.proofs.Common as common
-use Rattle.std.specs.Str.{bytes_eq}
-use Rattle.std.proofs.lemmas.List.{get_or-drop, length-drop, drop-drop, drop-append-le, drop-set-add}
-use Rattle.asound_conf.specs.Tree.{text, group, empty, has_node, get, without_name}
-use Rattle.asound_conf.specs.Tree as tree
-use Rattle.asound_conf.specs.Rows.{ConfRow, Alters, IsAbsent, IsNode, group_of, is_in, no_row, node, row_at, group_in_rows}
+use Rattle.asound_conf.specs.Prelude.{ap, ap₂, arith, cond, drop, false, inl, inr, length, List, None, refl, Some, suc, sym, true, zero, ℕ, [], ◌++◌, ◌+◌, ◌-◌}
+use Rattle.asound_conf.specs.Prelude.{◌<◌, ◌∙◌, ◌∷◌, ◌≡◌, ◌≤◌, cases_Bool, drop-append-le, drop-drop, drop-set-add, get_or-drop, length-drop, bytes_eq, Alters}
+use Rattle.asound_conf.specs.Prelude.{ConfRow, group_in_rows, group_of, is_in, IsAbsent, IsNode, no_row, node, row_at, empty, get, group, has_node, text}
+use Rattle.asound_conf.specs.Prelude.{without_name}
 use Rattle.asound_conf.proofs.Places.{get-none}
 use Rattle.asound_conf.proofs.Rows.{IsAt, get-at, has_node-absent, reaches, within-child, within-push, within-set, without-removed}
+use Rattle.std.proofs.Common as common
+use Rattle.asound_conf.specs.Tree as tree
 
 -- the rows after a row, as they are among those after an earlier row
 row-after : (rows : List ConfRow) (p n : ℕ) → p < n → row_at (drop (suc p) rows) (n - suc p) ≡ row_at rows n

@@ -1,7 +1,6 @@
 -- The card channels of bindings, joined by commas, with one channel more.
-use Rattle.std.proofs.Common.{◌≡◌, ℕ, zero, suc, ◌+◌, ◌<◌, List, [], ◌∷◌, ◌++◌, length, take, map, refl, ap, sym, ◌∙◌, append_assoc, slice_index, arith}
-use Rattle.std.specs.Fmt.{decimal}
-use Rattle.std.specs.List.{join_with_byte}
+use Rattle.asound_conf.specs.Prelude.{ap, append_assoc, arith, length, List, map, refl, suc, sym, take, zero, ℕ, [], ◌++◌, ◌+◌, ◌<◌, ◌∙◌, ◌∷◌, ◌≡◌, decimal}
+use Rattle.asound_conf.specs.Prelude.{join_with_byte, slice_index}
 
 -- the channels up to a place, and the next
 joined_take : (bs : List ℕ) (i : ℕ) → 0 < i → i < length bs

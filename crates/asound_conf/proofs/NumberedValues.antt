@@ -1,16 +1,10 @@
 -- The numbered values of a group, and the bindings that they are.
-use Rattle.std.proofs.Common.{◌≡◌, ℕ, zero, suc, ◌<◌, ◌≤◌, ◌+◌, ◌==◌, true, false, min, List, [], ◌∷◌, ◌++◌, length, take, set, Option, Some, None, refl, sym, ◌∙◌, ap, arith, inl, inr, length-append}
-use Rattle.std.specs.Prelude.{nat_lt, Err, option_map}
-use Rattle.asound_conf.specs.declared.error.ConfWhy.TheVariants as why
-use Rattle.std.specs.Fmt.{decimal}
-use Rattle.std.proofs.lemmas.Bool.{cases_lt}
-use Rattle.std.proofs.lemmas.Bool.Decides.{nat_tests}
-use Rattle.std.proofs.lemmas.List.{take_all, take-append-le, length-take-le}
-use Rattle.std.proofs.lemmas.List as lists
-use Rattle.bindings.specs.Answers.{answer_of}
+use Rattle.asound_conf.specs.Prelude.{ap, arith, Err, false, inl, inr, length, length-append, List, min, None, Option, refl, set, Some, suc, sym, take, true}
+use Rattle.asound_conf.specs.Prelude.{zero, ℕ, [], ◌++◌, ◌+◌, ◌<◌, ◌∙◌, ◌∷◌, ◌≡◌, ◌≤◌, cases_lt, nat_tests, length-take-le, take-append-le, take_all, decimal}
+use Rattle.asound_conf.specs.Prelude.{nat_lt, option_map, ◌==◌, bindings_in, bound, number_of_node, numbered_values, value_more, Entries, get}
 use Rattle.snd_base.specs.declared.errors.Why.TheVariants.{BindingsTooMany}
-use Rattle.asound_conf.specs.Device.{bindings_in, bound, number_of_node, value_more, numbered_values}
-use Rattle.asound_conf.specs.Tree.{Entries, get}
+use Rattle.bindings.specs.Answers.{answer_of}
+use Rattle.std.proofs.lemmas.List as lists
 
 -- the first values, of which at most nine are kept
 pub record AreFirst (g : Entries) (n : ℕ) (kept : List ℕ) : Type 0 where

@@ -1,14 +1,10 @@
 -- The parts of a key, as they are added and looked at.
-use Rattle.std.proofs.Common.{◌≡◌, ℕ, zero, suc, ◌+◌, ◌-◌, ◌<◌, ◌≤◌, Bool, true, false, ◌||◌, List, [], ◌∷◌, ◌++◌, length, take, drop, get_or, refl, sym, ap, subst, ◌∙◌, arith, append_assoc}
-use Rattle.std.specs.Prelude.{map}
-use Rattle.std.specs.List.{list_any, slice_split}
-use Rattle.std.proofs.lemmas.List.{map-append}
+use Rattle.asound_conf.specs.Prelude.{ap, append_assoc, arith, Bool, drop, false, get_or, length, List, map, refl, subst, suc, sym, take, true, zero, ℕ, []}
+use Rattle.asound_conf.specs.Prelude.{◌++◌, ◌+◌, ◌-◌, ◌<◌, ◌||◌, ◌∙◌, ◌∷◌, ◌≡◌, ◌≤◌, map-append, list_any, slice_split, part_in, parts_in, span_in}
+use Rattle.asound_conf.specs.Key.{Part, is_dot, key_part, word_parts}
+use Rattle.asound_conf.proofs.Starts.{span-drop, span-take}
 use Rattle.asound_conf.specs.declared.cell.Name.TheVariants as names
 use Rattle.asound_conf.specs.declared.part.Part as code
-use Rattle.asound_conf.specs.Key.{Part, is_dot, key_part, word_parts}
-use Rattle.asound_conf.specs.Parts.{part_in, parts_in}
-use Rattle.asound_conf.specs.Table.{span_in}
-use Rattle.asound_conf.proofs.Starts.{span-drop, span-take}
 
 -- the first parts of a word were added, and those of this rest of it are left
 pub record IsPushed (text : List ℕ) (old now : List code.Part) (word rest : List ℕ) (at : ℕ) : Type 0 where

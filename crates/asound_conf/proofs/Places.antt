@@ -1,9 +1,6 @@
 -- What a group is with a name and without it.
-use Rattle.std.proofs.Common.{inl, inr, ◌≡◌, ℕ, true, false, List, Some, None, refl, ap}
-use Rattle.std.specs.Str.{bytes_eq}
-use Rattle.std.proofs.lemmas.Bool.{cases_Bool, or_parts, or_right}
-use Rattle.std.proofs.lemmas.Slice.Eq.{bytes_eq-Decides}
-use Rattle.asound_conf.specs.Tree.{Tree, group, Entries, empty, entry, has_node, get, without_name}
+use Rattle.asound_conf.specs.Prelude.{ap, false, inl, inr, List, None, refl, Some, true, ℕ, ◌≡◌, cases_Bool, or_parts, or_right, bytes_eq-Decides, bytes_eq}
+use Rattle.asound_conf.specs.Prelude.{empty, Entries, entry, get, has_node, Tree, without_name}
 use Rattle.asound_conf.specs.Tree as tree
 
 -- a group without a name that it hasn't

@@ -1,22 +1,17 @@
 -- What an item puts into the group of a row.
-use Rattle.std.proofs.Common.{◌≡◌, ℕ, ◌<◌, Bool, true, false, cond, ◌||◌, List, [], ◌∷◌, ◌++◌, length, length-append, is_none, set, Option, Some, None, Result, Ok, Err, IfOk, IfErr, OnErr, OnOk, refl, sym, ap, ◌∙◌, subst, arith}
-use Rattle.std.proofs.Math.Seq.{get_or-append_seam}
-use Rattle.std.proofs.lemmas.Bool.{or_parts}
-use Rattle.std.proofs.lemmas.List.{get_or_past}
-use Rattle.asound_conf.specs.declared.error.ConfWhy.{ConfWhy}
-use Rattle.asound_conf.specs.declared.error.ConfWhy.TheVariants as why
-use Rattle.asound_conf.specs.Answer.{Leads, Refuses, answer_view}
+use Rattle.asound_conf.specs.Prelude.{ap, arith, Bool, cond, Err, false, IfErr, IfOk, is_none, length, length-append, List, None, Ok, OnErr, OnOk, Option, refl}
+use Rattle.asound_conf.specs.Prelude.{Result, set, Some, subst, sym, true, ℕ, [], ◌++◌, ◌<◌, ◌||◌, ◌∙◌, ◌∷◌, ◌≡◌, get_or-append_seam, or_parts, get_or_past}
+use Rattle.asound_conf.specs.Prelude.{ConfWhy, answer_view, Leads, Refuses, base, clashes, is_last, meets_text, node_at, node_met, put, put_or_clash, put_there}
+use Rattle.asound_conf.specs.Prelude.{Alters, ConfRow, Contents, group_of, IsAbsent, IsNode, no_row, node, row_at, with_row, empty, Entries, get, group}
+use Rattle.asound_conf.specs.Prelude.{group_in, is_text, text, Tree, without_name, IsKeyStep, IsWay}
 use Rattle.asound_conf.specs.Key.{Part, part_named, without_marks}
-use Rattle.asound_conf.specs.Place.{base, clashes, is_last, meets_text, node_met, put_or_clash, put, put_there, node_at}
-use Rattle.asound_conf.specs.Rows.{Contents, ConfRow, Alters, IsAbsent, IsNode, group_of, no_row, node, row_at, with_row}
-use Rattle.asound_conf.specs.Tree.{Tree, text, group, Entries, empty, get, group_in, is_text, without_name}
-use Rattle.asound_conf.specs.Tree as tree
-use Rattle.asound_conf.specs.Way.{IsKeyStep, IsWay}
 use Rattle.asound_conf.proofs.Below.{placed-below, placed-down, with_group}
 use Rattle.asound_conf.proofs.Groups.{Alters-both, Alters-same, get-IsAbsent, get-IsNode, group-push, group-set, has_node-IsAbsent}
 use Rattle.asound_conf.proofs.Places.{get-none, get-set, has_node-without, set-get, set-set}
 use Rattle.asound_conf.proofs.Rows.{Alters-push}
 use Rattle.asound_conf.proofs.Ways.{IsWay-kept, IsWay-more, group_at-IsWay, met-IsKeyStep, with_group-IsWay}
+use Rattle.asound_conf.specs.declared.error.ConfWhy.TheVariants as why
+use Rattle.asound_conf.specs.Tree as tree
 
 -- a part of a key meets what its group has once the part has cleared it
 pub get-base : (part : Part) (g : Entries) → get part.name (base part g) ≡ node_met part g

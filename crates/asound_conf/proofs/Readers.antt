@@ -1,29 +1,20 @@
 -- Where a reader is among the groups of rows, before and after each step.
-use Rattle.std.proofs.Common.{◌≡◌, ℕ, zero, suc, ◌+◌, ◌<◌, ◌≤◌, Bool, true, false, cond, nat_lt, nat_le, List, [], ◌∷◌, ◌++◌, length, length-append, length-drop, map, take, drop, Option, Some, None, Result, Ok, Err, refl, sym, ap, ap₂, ◌∙◌, subst, arith}
-use Rattle.std.proofs.lemmas.Bool.Decides.{nat_tests}
-use Rattle.std.proofs.lemmas.List.{append-nil, drop-map, drop_all, drop_at, length-take, length-take-le, nil_from_length, take-append-le, take-take, take_at}
-use Rattle.std.specs.Prelude.{reverse}
-use Rattle.asound_conf.specs.declared.bracket.Awaits.{Awaits}
+use Rattle.asound_conf.specs.Prelude.{ap, ap₂, arith, Bool, cond, drop, Err, false, length, length-append, List, map, nat_le, None, Ok, Option, refl, Result}
+use Rattle.asound_conf.specs.Prelude.{Some, subst, suc, sym, take, true, zero, ℕ, [], ◌++◌, ◌+◌, ◌<◌, ◌∙◌, ◌∷◌, ◌≡◌, ◌≤◌, nat_tests, append-nil, drop-map}
+use Rattle.asound_conf.specs.Prelude.{drop_all, drop_at, length-drop, length-take, length-take-le, nil_from_length, take-append-le, take-take, take_at, nat_lt}
+use Rattle.asound_conf.specs.Prelude.{reverse, Awaits, ConfWhy, answer_view, Leads, Refuses, after_item, at_key, close_to, in_group, open_group, put_key}
+use Rattle.asound_conf.specs.Prelude.{put_text, start, State, AreAround, bracket_of, IsHere, IsOpen, key_cause, or_cause, state_in, part_in, parts_in}
+use Rattle.asound_conf.specs.Prelude.{meets_text, put_or_clash, IsReading, rest_of_key, state_of, Contents, group_of, no_row, Entries, IsWay}
 use Rattle.asound_conf.specs.declared.bracket.Awaits.TheVariants.{Item, Value}
-use Rattle.asound_conf.specs.declared.bracket.Bracket as code
-use Rattle.asound_conf.specs.declared.cell.Name.TheVariants as names
-use Rattle.asound_conf.specs.declared.error.ConfWhy.{ConfWhy}
-use Rattle.asound_conf.specs.declared.error.ConfWhy.TheVariants as why
-use Rattle.asound_conf.specs.declared.part.Part as part
 use Rattle.asound_conf.specs.declared.reading.Reading.{Reading}
-use Rattle.asound_conf.specs.Answer.{Leads, Refuses, answer_view}
-use Rattle.asound_conf.specs.Grammar.{State, after_item, at_key, close_to, open_group, put_key, put_text, in_group, start}
 use Rattle.asound_conf.specs.Key.{Part, key_defect, part_named, without_marks}
-use Rattle.asound_conf.specs.Parts.{part_in, parts_in}
-use Rattle.asound_conf.specs.Place.{meets_text, put_or_clash}
-use Rattle.asound_conf.specs.Opening.{AreAround, IsHere, IsOpen, bracket_of, key_cause, or_cause, state_in}
-use Rattle.asound_conf.specs.Reading.{IsReading, rest_of_key, state_of}
-use Rattle.asound_conf.specs.Rows.{Contents, group_of, no_row}
-use Rattle.asound_conf.specs.Tree.{Entries}
-use Rattle.asound_conf.specs.Way.{IsWay}
 use Rattle.asound_conf.proofs.Below.{meets_text-below}
 use Rattle.asound_conf.proofs.Puts.{Leads-along, Leads-seen, meets_text-one}
 use Rattle.asound_conf.proofs.Ways.{group_at-IsWay}
+use Rattle.asound_conf.specs.declared.bracket.Bracket as code
+use Rattle.asound_conf.specs.declared.cell.Name.TheVariants as names
+use Rattle.asound_conf.specs.declared.error.ConfWhy.TheVariants as why
+use Rattle.asound_conf.specs.declared.part.Part as part
 
 -- a path, whose marks have done their work
 path_in : List ℕ → List part.Part → List Part

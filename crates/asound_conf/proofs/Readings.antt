@@ -1,14 +1,8 @@
 -- What tokens mean, one by one.
-use Rattle.std.proofs.Common.{◌≡◌, ℕ, ◌<◌, List, [], ◌∷◌, length, Result, Ok, Err, refl, sym, ap, ◌∙◌, subst, arith}
+use Rattle.asound_conf.specs.Prelude.{ap, arith, Err, length, List, Ok, refl, Result, subst, sym, ℕ, [], ◌<◌, ◌∙◌, ◌∷◌, ◌≡◌, Awaits, ConfWhy, Refuses}
+use Rattle.asound_conf.specs.Prelude.{after_token, Bracket, end_of_text, meaning, State, step, Reads, RefusesText, LineToken, Entries}
 use Rattle.asound_conf.specs.declared.error.ConfError.{ConfError}
-use Rattle.asound_conf.specs.declared.error.ConfWhy.{ConfWhy}
 use Rattle.asound_conf.specs.declared.error.ConfWhy.TheVariants as why
-use Rattle.asound_conf.specs.declared.bracket.Awaits.{Awaits}
-use Rattle.asound_conf.specs.Grammar.{Bracket, State, end_of_text, meaning, step, after_token}
-use Rattle.asound_conf.specs.Answer.{Refuses}
-use Rattle.asound_conf.specs.Reading.{Reads, RefusesText}
-use Rattle.asound_conf.specs.Token.{LineToken}
-use Rattle.asound_conf.specs.Tree.{Entries}
 
 -- after a token that leads on
 pub meaning-next : (s next : State) (last : ℕ) (t : LineToken) (ts : List LineToken) → step s t.line t.token ≡ Ok next → meaning s last (t ∷ ts) ≡ meaning next last ts

@@ -1,14 +1,11 @@
 -- The groups of rows: what is found in them, and what one row more or another row changes.
-use Rattle.std.proofs.Common.{◌≡◌, ℕ, zero, suc, ◌+◌, ◌<◌, ◌-◌, ◌==◌, Bool, true, false, cond, ◌||◌, List, [], ◌∷◌, ◌++◌, length, drop, Option, Some, None, refl, sym, ap, ap₂, ◌∙◌, subst, arith, ◌⊎◌, inl, inr, length-append}
-use Rattle.std.specs.Str.{bytes_eq}
-use Rattle.std.proofs.lemmas.Bool.{cases_Bool, or_cases, or_parts, or_right}
-use Rattle.std.proofs.lemmas.Bool.Decides.{nat_tests}
-use Rattle.std.proofs.lemmas.List.{length-set}
-use Rattle.std.proofs.Common as common
-use Rattle.asound_conf.specs.Tree.{text, group, empty, entry, has_node, get, without_name}
-use Rattle.asound_conf.specs.Tree as tree
-use Rattle.asound_conf.specs.Rows.{ConfRow, row_at, is_in, node, group_in_rows, Alters, IsOnlyIn}
+use Rattle.asound_conf.specs.Prelude.{ap, ap₂, arith, Bool, cond, drop, false, inl, inr, length, length-append, List, None, Option, refl, Some, subst, suc, sym}
+use Rattle.asound_conf.specs.Prelude.{true, zero, ℕ, [], ◌++◌, ◌+◌, ◌-◌, ◌<◌, ◌||◌, ◌∙◌, ◌∷◌, ◌≡◌, ◌⊎◌, cases_Bool, or_cases, or_parts, or_right, nat_tests}
+use Rattle.asound_conf.specs.Prelude.{length-set, ◌==◌, bytes_eq, Alters, ConfRow, group_in_rows, is_in, IsOnlyIn, node, row_at, empty, entry, get, group}
+use Rattle.asound_conf.specs.Prelude.{has_node, text, without_name}
 use Rattle.asound_conf.proofs.Places.{bytes_eq-self}
+use Rattle.std.proofs.Common as common
+use Rattle.asound_conf.specs.Tree as tree
 
 -- a row that is in a group
 pub is_in-Some : (p : ℕ) (parent : Option ℕ) → parent ≡ Some p → is_in p parent ≡ true

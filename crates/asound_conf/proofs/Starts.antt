@@ -1,16 +1,11 @@
 -- Where the tokens of a text are in it.
-use Rattle.std.proofs.Common.{inl, inr, ◌≡◌, ℕ, ◌+◌, ◌-◌, ◌<◌, ◌≤◌, ◌^◌, Bool, true, false, List, length, take, drop, refl, sym, ap, ◌∙◌, arith}
-use Rattle.std.specs.Prelude.{◌==◌, if◌then◌else◌, slice_index}
-use Rattle.std.proofs.lemmas.Bool.{cond-true}
-use Rattle.std.proofs.lemmas.List.{drop-drop, drop-take, length-drop, length-take, take-take}
+use Rattle.asound_conf.specs.Prelude.{ap, arith, Bool, drop, false, inl, inr, length, List, refl, sym, take, true, ℕ, ◌+◌, ◌-◌, ◌<◌, ◌^◌, ◌∙◌, ◌≡◌, ◌≤◌}
+use Rattle.asound_conf.specs.Prelude.{cond-true, drop-drop, drop-take, length-drop, length-take, take-take, if◌then◌else◌, slice_index, ◌==◌, Mark, AreAt}
+use Rattle.asound_conf.specs.Prelude.{AreBefore, IsBefore, IsSuffix, span_in, bad, end_at, ends_word, quoted, quoted_end, token_at, token_end, token_of, word}
+use Rattle.asound_conf.proofs.FirstBytes.{first-cases, token_at-quote, token_at-word, token_end-quote, token_end-word}
 use Rattle.asound_conf.specs.declared.error.ConfWhy.TheVariants as why
-use Rattle.asound_conf.specs.declared.token.Mark.{Mark}
 use Rattle.asound_conf.specs.declared.token.Token as code
 use Rattle.asound_conf.specs.declared.token.Token.TheVariants as lent
-use Rattle.asound_conf.specs.Start.{AreAt, AreBefore, IsBefore, IsSuffix}
-use Rattle.asound_conf.specs.Table.{span_in}
-use Rattle.asound_conf.specs.Token.{word, quoted, bad, end_at, ends_word, quoted_end, token_at, token_end, token_of}
-use Rattle.asound_conf.proofs.FirstBytes.{first-cases, token_at-quote, token_at-word, token_end-quote, token_end-word}
 
 -- a text ends with itself
 pub IsSuffix-self : (text : List ℕ) → IsSuffix text text

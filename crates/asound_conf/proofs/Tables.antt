@@ -1,27 +1,17 @@
 -- Cells of a table: how they are sought, and what holds as they are added and changed.
-use Rattle.std.proofs.Common.{◌≡◌, ℕ, zero, suc, ◌+◌, ◌<◌, ◌≤◌, Bool, true, false, ◌&&◌, List, [], ◌∷◌, ◌++◌, length, get_or, set, Option, Some, None, refl, sym, ap, subst, ◌∙◌, arith, inl, inr, ◌⊎◌, length-append, length-set}
-use Rattle.std.specs.Prelude.{◌==◌, if◌then◌else◌, map, nat_lt, nat_le}
-use Rattle.std.specs.Str.{bytes_eq}
-use Rattle.std.specs.Fmt.{decimal}
-use Rattle.std.proofs.Math.Seq.{map-set_same, get_or-append_seam}
+use Rattle.asound_conf.specs.Prelude.{ap, arith, Bool, false, get_or, inl, inr, length, length-append, List, map, nat_le, None, Option, refl, set, Some, subst}
+use Rattle.asound_conf.specs.Prelude.{suc, sym, true, zero, ℕ, [], ◌&&◌, ◌++◌, ◌+◌, ◌<◌, ◌∙◌, ◌∷◌, ◌≡◌, ◌≤◌, ◌⊎◌, get_or-append_seam, map-set_same, and_parts}
+use Rattle.asound_conf.specs.Prelude.{cases_eq, cases_lt, false_from_ne_true, false≢true, leb-true, ltb-true, nat_tests, decimal_injective, get_or-set_at}
+use Rattle.asound_conf.specs.Prelude.{get_or-map, get_or-set_other, get_or_past, length-map, length-set, map-append, map-set, bytes_eq-Decides, decimal}
+use Rattle.asound_conf.specs.Prelude.{if◌then◌else◌, nat_lt, ◌==◌, bytes_eq, Cell, Content, Name, Span, ConfRow, is_in, IsAbsent, IsNode, no_row, row_at}
+use Rattle.asound_conf.specs.Prelude.{bucket_at, bucket_of, cell_at, cell_row, content_of, content_with, fits, HasBelow, is_live, IsIndexed, IsLink, IsTable}
+use Rattle.asound_conf.specs.Prelude.{lacks, name_in, new_row, no_cell, no_number, number_after, parent_of, text_bytes, value_in}
 use Rattle.std.proofs.Math.ListN.{get_or-append}
-use Rattle.std.proofs.lemmas.Bool.{and_parts, cases_eq, cases_lt, false_from_ne_true, false≢true, leb-true, ltb-true}
-use Rattle.std.proofs.lemmas.Bool.Decides.{nat_tests}
-use Rattle.std.proofs.lemmas.Fmt.{decimal_injective}
-use Rattle.std.proofs.lemmas.Grind.{get_or-set_at}
-use Rattle.std.proofs.lemmas.List.{get_or_past, get_or-map, get_or-set_other, length-map, map-append, map-set}
-use Rattle.std.proofs.lemmas.Slice.Eq.{bytes_eq-Decides}
-use Rattle.asound_conf.specs.declared.cell.Span.{Span}
-use Rattle.asound_conf.specs.declared.cell.Name.{Name}
-use Rattle.asound_conf.specs.declared.cell.Name.TheVariants as names
 use Rattle.asound_conf.specs.declared.cell.ConfText.{ConfText}
-use Rattle.asound_conf.specs.declared.cell.ConfText.TheVariants as keys
-use Rattle.asound_conf.specs.declared.cell.Content.{Content}
-use Rattle.asound_conf.specs.declared.cell.Content.TheVariants as contents
-use Rattle.asound_conf.specs.declared.cell.Cell.{Cell}
-use Rattle.asound_conf.specs.Rows.{IsAbsent, IsNode, ConfRow, is_in, no_row, row_at}
-use Rattle.asound_conf.specs.Table.{HasBelow, IsIndexed, IsLink, IsTable, bucket_at, bucket_of, cell_at, content_of, fits, is_live, text_bytes, lacks, name_in, new_row, no_cell, no_number, content_with, parent_of, number_after, cell_row, value_in}
 use Rattle.asound_conf.proofs.Rows.{is_in-true}
+use Rattle.asound_conf.specs.declared.cell.Name.TheVariants as names
+use Rattle.asound_conf.specs.declared.cell.ConfText.TheVariants as keys
+use Rattle.asound_conf.specs.declared.cell.Content.TheVariants as contents
 
 parented : (t : Bool) (q p : ℕ) → (if t then None else Some q) ≡ Some p → q ≡ p
 parented true q p e = cc

@@ -1,8 +1,6 @@
 -- The tokens of a text, one after another.
-use Rattle.std.proofs.Common.{◌≡◌, ℕ, zero, suc, ◌<◌, ◌-◌, true, false, cond, List, [], ◌∷◌, length, drop, refl, sym, ◌∙◌, ap, arith}
-use Rattle.std.specs.Prelude.{slice_index}
-use Rattle.std.proofs.lemmas.Bool.Decides.{nat_tests}
-use Rattle.asound_conf.specs.Token.{LineToken, is_skipped, line_after, token_at, token_end, tokens}
+use Rattle.asound_conf.specs.Prelude.{ap, arith, cond, drop, false, length, List, refl, suc, sym, true, zero, ℕ, [], ◌-◌, ◌<◌, ◌∙◌, ◌∷◌, ◌≡◌, nat_tests}
+use Rattle.asound_conf.specs.Prelude.{slice_index, is_skipped, line_after, LineToken, token_at, token_end, tokens}
 
 -- the tokens of a text after what was taken
 pub tokens-taken : (taken line : ℕ) (text : List ℕ) → tokens taken line text ≡ tokens 0 line (drop taken text)

@@ -1,8 +1,6 @@
 -- The nodes in a group, row by row.
-use Rattle.std.proofs.Common.{◌≡◌, ℕ, zero, suc, ◌<◌, ◌≤◌, true, false, List, [], ◌∷◌, length, drop, refl, ap, ◌∙◌, arith}
-use Rattle.std.proofs.lemmas.List.{drop_all}
-use Rattle.asound_conf.specs.Tree.{empty, entry}
-use Rattle.asound_conf.specs.Rows.{ConfRow, entries_from, group_in_rows, group_of, is_in, node, row_at}
+use Rattle.asound_conf.specs.Prelude.{ap, arith, drop, false, length, List, refl, suc, true, zero, ℕ, [], ◌<◌, ◌∙◌, ◌∷◌, ◌≡◌, ◌≤◌, drop_all, ConfRow}
+use Rattle.asound_conf.specs.Prelude.{entries_from, group_in_rows, group_of, is_in, node, row_at, empty, entry}
 
 -- the rows from a number on are the row of this number and those after it
 drop-row : (rows : List ConfRow) (n : ℕ) → n < length rows → drop n rows ≡ row_at rows n ∷ drop (suc n) rows

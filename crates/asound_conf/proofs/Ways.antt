@@ -1,15 +1,11 @@
 -- The ways from row to row down the parts of a key.
-use Rattle.std.proofs.Common.{◌≡◌, ℕ, suc, ◌<◌, ◌≤◌, ◌-◌, true, cond, List, [], ◌∷◌, ◌++◌, length, drop, Some, None, refl, sym, ap, ◌∙◌, subst, arith, inl, inr}
-use Rattle.std.specs.Str.{bytes_eq}
+use Rattle.asound_conf.specs.Prelude.{ap, arith, cond, drop, inl, inr, length, List, None, refl, Some, subst, suc, sym, true, ℕ, [], ◌++◌, ◌-◌, ◌<◌, ◌∙◌, ◌∷◌}
+use Rattle.asound_conf.specs.Prelude.{◌≡◌, ◌≤◌, bytes_eq, node_met, Alters, ConfRow, group_of, IsNode, node, row_at, get, group, group_in, IsKeyStep, IsWay}
 use Rattle.asound_conf.specs.Key.{Part}
-use Rattle.asound_conf.specs.Place.{node_met}
-use Rattle.asound_conf.specs.Rows.{ConfRow, Alters, IsNode, group_of, node, row_at}
-use Rattle.asound_conf.specs.Tree.{group, get, group_in}
-use Rattle.asound_conf.specs.Tree as tree
-use Rattle.asound_conf.specs.Way.{IsKeyStep, IsWay}
 use Rattle.asound_conf.proofs.Below.{found_in, group_at, inner_group, with_group}
 use Rattle.asound_conf.proofs.Groups.{at-IsNode, drop-after, get-IsNode, group-child}
 use Rattle.asound_conf.proofs.Rows.{is_in-Some, reaches, reaches-at, reaches-self}
+use Rattle.asound_conf.specs.Tree as tree
 
 pub IsWay-le : (rows : List ConfRow) (p : ℕ) (path : List Part) (q : ℕ) → IsWay rows p path q → p ≤ q
 IsWay-le rows p [] q way = omega arith

@@ -8,6 +8,7 @@ pub mod Node
 pub mod Opening
 pub mod Parts
 pub mod Place
+pub mod Prelude
 pub mod Reading
 pub mod Rows
 pub mod Start

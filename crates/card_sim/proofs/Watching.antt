@@ -1,18 +1,10 @@
 -- What a watch sees of the steps of a run.
-use Rattle.std.proofs.Common.{◌≡◌, ℕ, ℤ, suc, ◌+◌, Bool, true, false, List, [], ◌∷◌, ◌++◌, if◌then◌else◌, ap, refl, subst, sym, ◌∙◌, append-nil, arith}
+use Rattle.card_sim.specs.Prelude.{ap, append-nil, arith, Bool, false, if◌then◌else◌, List, refl, subst, suc, sym, true, ℕ, ℤ, [], ◌++◌, ◌+◌, ◌∙◌, ◌∷◌, ◌≡◌}
+use Rattle.card_sim.specs.Prelude.{Geometry, Cursor, first_frame, last_number, last_position, next_of_player, position_of_player, WriterSeat, next_frame}
+use Rattle.card_sim.specs.Prelude.{writer_geometry, writer_track, CardPlayer, last_number-append, at_frame, ends_period, seat_of, frame_moments, last_period}
+use Rattle.card_sim.specs.Prelude.{Moment, moment_at, moment_of, moments_of, moments_to, period_moments, position_of_writer, publish_moments, SightsCompose}
+use Rattle.card_sim.specs.Prelude.{HasCaptured}
 use Rattle.std.proofs.Math.Numerals.{suc-eq-add-one}
-use Rattle.snd_base.specs.declared.geometry.Geometry.{Geometry}
-use Rattle.snd_base.specs.declared.places.Cursor.{Cursor}
-use Rattle.snd_base.specs.Places.{first_frame}
-use Rattle.ring_rule.specs.Positions.{last_number, last_position}
-use Rattle.sum_table.specs.Players.{next_of_player, position_of_player}
-use Rattle.card_player.specs.declared.player.CardPlayer.{CardPlayer}
-use Rattle.card_player.specs.PlayLaws.{last_number-append}
-use Rattle.card_player.specs.Plays.{at_frame, ends_period, seat_of}
-use Rattle.snoop_table.specs.declared.seats.writer.WriterSeat.{WriterSeat}
-use Rattle.snoop_table.specs.Writers.{next_frame, writer_geometry, writer_track}
-use Rattle.card_sim.specs.Moments.{Moment, SightsCompose, frame_moments, last_period, moment_at, moment_of, moments_of, moments_to, period_moments, position_of_writer, publish_moments}
-use Rattle.card_sim.specs.Runs.{HasCaptured}
 
 -- the writer's last position after it published some more
 pub position_of_writer-captured : (w v : WriterSeat) (samples : List ℤ) (positions : List ℕ) → HasCaptured w v samples positions

@@ -1,4 +1,5 @@
 pub mod Moments
+pub mod Prelude
 pub mod RunLaws
 pub mod Runs
 pub mod Steps

@@ -1,35 +1,22 @@
 -- A client's seat ends in its segment, and still does after each call.
-use Rattle.std.proofs.Common.{◌≡◌, ℕ, zero, suc, ◌+◌, ◌*◌, ◌<◌, ◌≤◌, List, [], ◌∷◌, ◌++◌, length, get_or, take, refl, sym, ◌∙◌, ap, subst, arith}
-use Rattle.std.specs.Prelude.{Bool, true, false, ◌&&◌, not, if◌then◌else◌, ℤ, pos, ◌-◌, Option, None, Some, Result}
-use Rattle.std.specs.Coded.{Coded-set}
-use Rattle.std.proofs.Math.Logic.{∥∥₁_elim, ∥∥₁_map}
+use Rattle.dmix_c.specs.Prelude.{ap, arith, get_or, length, length-append, List, refl, subst, suc, sym, take, zero, ℕ, ℤ, [], ◌*◌, ◌++◌, ◌+◌, ◌<◌, ◌∙◌, ◌∷◌}
+use Rattle.dmix_c.specs.Prelude.{◌≡◌, ◌≤◌, ∥∥₁_elim, ∥∥₁_map, append-nil, take-append-le, Bool, false, if◌then◌else◌, None, not, Option, pos, Result, Some}
+use Rattle.dmix_c.specs.Prelude.{true, ◌&&◌, ◌-◌, PcmError, Call, State, Playback, is_set_up, refusal_of, NeverStops, MixSeat, SeatEndsIn, SeatEndsIn-laid}
+use Rattle.dmix_c.specs.Prelude.{SeatEndsIn-part, view_of, PlaybackStream, base_of, is_paused, with_new_base, held_entries, ClientView, IsSoundClient}
+use Rattle.dmix_c.specs.Prelude.{IsBackedBy, IsBackedSeat, no_gate, seat_port}
 use Rattle.std.proofs.Math.Nat.{mul-le-mul_right}
-use Rattle.std.proofs.lemmas.List.{append-nil, length-append, take-append-le}
+use Rattle.std.specs.Coded.{Coded-set}
 use base.Stored.{coded_list}
 use Rattle.bindings.specs.Bound.{AreBindings}
-use Rattle.snd_base.specs.declared.errors.PcmError.{PcmError}
-use Rattle.mix_core.specs.declared.gate.NeverStops.{NeverStops}
 use Rattle.mix_core.specs.declared.port.Entry.{Entry}
-use Rattle.mix_core.specs.contracts.port.Entry as entries
 use Rattle.mix_core.specs.Laid.{EndsIn, standing}
-use Rattle.pcm_states.specs.declared.calls.Call.{Call}
-use Rattle.pcm_states.specs.declared.calls.Call.TheVariants as call
-use Rattle.pcm_states.specs.declared.states.State.{State}
-use Rattle.pcm_states.specs.declared.states.State.TheVariants as state
-use Rattle.pcm_stream.specs.declared.direction.Direction.TheVariants.{Playback}
-use Rattle.pcm_stream.specs.Status.{is_set_up, refusal_of}
-use Rattle.sum_table.specs.declared.seats.mix.MixSeat.{MixSeat}
-use Rattle.sum_table.specs.Seats.{SeatEndsIn, SeatEndsIn-laid, SeatEndsIn-part, view_of}
-use Rattle.dmix_client.specs.declared.stream.PlaybackStream.{PlaybackStream}
-use Rattle.dmix_client.specs.Calls.{base_of, is_paused, with_new_base}
 use Rattle.dmix_client.specs.Expansion.{sample_at}
 use Rattle.dmix_client.specs.ExpansionLaws.{frames_used, run_entries-same}
 use Rattle.dmix_client.specs.Growth.{AnySamples, Follows, Keeps, KeepsBack, segment_entries}
-use Rattle.dmix_client.specs.Rewind.{held_entries}
 use Rattle.dmix_client.specs.StandingLaws.{IsBacked-back, IsBacked-grows, IsBacked-held, IsBacked-new, IsBacked-rebased}
-use Rattle.dmix_client.specs.View.{ClientView, IsSoundClient}
-use Rattle.dmix_c.specs.Backed.{IsBackedBy, IsBackedSeat}
-use Rattle.dmix_c.specs.SeatPort.{no_gate, seat_port}
+use Rattle.mix_core.specs.contracts.port.Entry as entries
+use Rattle.pcm_states.specs.declared.calls.Call.TheVariants as call
+use Rattle.pcm_states.specs.declared.states.State.TheVariants as state
 
 -- the first samples of a list, silent ones where it has no more, and then others
 splice : ℕ → List ℤ → List ℤ → List ℤ

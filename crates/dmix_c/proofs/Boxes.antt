@@ -1,28 +1,11 @@
 -- A loose box as machine values: two words, the address and what stands for the allocator. Assumes `Logic`.
-use Rattle.std.proofs.Common.{◌≡◌, ℕ, List, [], ◌∷◌, ◌++◌, refl, subst}
-use mathlib.Core.Bool.{true, ◌&&◌}
-use lib.Dec.{T}
-use seplogic.Ra.Ura.{Ura}
-use mir.Syntax.{impl, tnil, dnil}
-use mir.Raw.{raw as bare}
-use mir.Val.{Val, vptr, vstruct, vcons, vnil, of_list, has_ty, WT}
-use base.Logic.{never, fst∗}
-use types.Logic.{Logic, sem}
-use types.Kit.{Item, Goal, Seq, Step, step, ‵, ◌$◌, move, drop, fsplit, fjoin, fpick, fpack, feq_i, feq_l}
-use denote.RattleType.{RattleType, Valss}
-use denote.Builtin.{RawPtr}
-use denote.Memory.{lone}
-use denote.RawPtr.{Ptr, block_ptr, null_ptr, ptr_val, in_a_block}
-use denote.Steps.{nothing}
-use denote.Param.{layout}
-use denote.Param.Laws.{Laws}
-use denote.Struct.Struct.{within}
-use denote.Struct.Owning.{shape}
+use Rattle.dmix_c.specs.Prelude.{List, refl, subst, ℕ, [], ◌++◌, ◌∷◌, ◌≡◌, true, ◌&&◌, Al, handle_tells, Good, and_tt, box_owns, fst∗, never, RawPtr, lone}
+use Rattle.dmix_c.specs.Prelude.{layout, Laws, RattleType, Valss, block_ptr, in_a_block, null_ptr, Ptr, ptr_val, nothing, shape, within, dnil, impl, tnil}
+use Rattle.dmix_c.specs.Prelude.{has_ty, of_list, Val, vcons, vnil, vptr, vstruct, WT, Ura, drop, feq_i, feq_l, fjoin, fpack, fpick, fsplit, Goal, Item, move}
+use Rattle.dmix_c.specs.Prelude.{Seq, Step, step, ‵, ◌$◌, Logic, sem}
 use Rattle.core.specs.declared.alloc.Allocator.{Ghosts}
-use Rattle.core.proofs.alloc.Calls.{Al, handle_tells}
-use Rattle.core.proofs.cell.Inside.{Good}
-use Rattle.std_alloc.specs.Box.Ownership.{box_owns}
-use Rattle.std_alloc.proofs.ResultValues.{and_tt}
+use lib.Dec.{T}
+use mir.Raw.{raw as bare}
 use Rattle.dmix_c.specs.contracts.loose.LooseBox as loose
 
 -- the machine value of a struct of an address and an allocator

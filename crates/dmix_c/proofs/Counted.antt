@@ -1,11 +1,7 @@
 -- A stream's channels are those of its configuration.
-use Rattle.std.proofs.Common.{◌≡◌, ℕ, ap, refl, ◌∙◌}
-use Rattle.std.specs.Prelude.{Bool, true, false, if◌then◌else◌, length, Option, None, Some}
-use Rattle.std.proofs.lemmas.Option.{none-some, same_Some}
-use Rattle.hw_space.specs.declared.config.Config.{Config}
+use Rattle.dmix_c.specs.Prelude.{ap, length, refl, ℕ, ◌∙◌, ◌≡◌, none-some, same_Some, Bool, false, if◌then◌else◌, None, Option, Some, true, Config, config_of}
+use Rattle.dmix_c.specs.Prelude.{stream_channels}
 use Rattle.pcm_stream.specs.declared.setup.Setup.{Setup}
-use Rattle.pcm_stream.specs.Setup.{config_of}
-use Rattle.dmix_c.specs.Channels.{stream_channels}
 
 -- of a stream with a configuration, which has as many channels as there are bindings
 pub stream_channels-configured : (setup : Setup) (config : Config) → Some config ≡ config_of setup → (setup.configured ≡ true → setup.config.channels ≡ length setup.bindings)

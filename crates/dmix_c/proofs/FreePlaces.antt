@@ -1,27 +1,18 @@
 -- Which places of a ring are free after its lobby handed a seat out, or took some back.
-use Rattle.std.proofs.Common.{◌≡◌, ℕ, ◌<◌, Bool, false, List, [], ◌∷◌, ◌++◌, Option, None, Some, Result, Ok, Err, get_or, length, set, arith, ap, refl, subst, sym, ◌∙◌, inl, inr}
-use Rattle.std.specs.List.{position, position_or_len}
-use Rattle.std.specs.Option.{is_some}
+use Rattle.dmix_c.specs.Prelude.{ap, arith, get_or, inl, inr, length, List, refl, set, subst, sym, ℕ, [], ◌++◌, ◌<◌, ◌∙◌, ◌∷◌, ◌≡◌, cases_eq, cases_lt}
+use Rattle.dmix_c.specs.Prelude.{false≢true, get_or-set_other, get_or-set_same, length-set, none-some, same_Some, is_some, Bool, Err, false, None, Ok, Option}
+use Rattle.dmix_c.specs.Prelude.{Result, Some, PcmError, Busy, MixSeat, last_frame, member_of, Lobby, Attaches, CanTakeBack, free_seats, HandsOut}
+use Rattle.dmix_c.specs.Prelude.{places_of_lobby, seen_of_lobby, TakesBack, KeepsLasts, last_of, lowest_free, lowest_silent, seat_at, OpenRing, CameBack}
+use Rattle.dmix_c.specs.Prelude.{Collects, IsFree, IsHandedOut, Receives, StayFree}
 use Rattle.std.proofs.Math.ListN.{get_or-eq_default}
-use Rattle.std.proofs.lemmas.Bool.{cases_eq, cases_lt, false≢true}
 use Rattle.std.proofs.lemmas.Bool.Decides.{nat_tests}
-use Rattle.std.proofs.lemmas.List.{get_or-set_other, get_or-set_same, length-set}
 use Rattle.std.proofs.lemmas.List.Sums.{fails_before_first}
-use Rattle.std.proofs.lemmas.Option.{none-some, same_Some}
-use Rattle.snd_base.specs.declared.errors.PcmError.{PcmError}
-use Rattle.snd_base.specs.declared.errors.PcmError.TheVariants.{Busy}
+use Rattle.std.specs.List.{position, position_or_len}
 use Rattle.mix_core.specs.declared.port.Position.{Position}
-use Rattle.sum_table.specs.declared.seats.mix.MixSeat.{MixSeat}
-use Rattle.sum_table.specs.Known.{last_frame}
-use Rattle.sum_table.specs.Seats.{member_of}
-use Rattle.lobby.specs.declared.lobby.Lobby.{Lobby}
 use Rattle.lobby.specs.Loads.{HasLoaded}
-use Rattle.lobby.specs.Lobbies.{Attaches, CanTakeBack, HandsOut, LoadsAt, TakesBack, free_seats, places_of_lobby, seen_of_lobby}
-use Rattle.lobby.specs.Seats.{KeepsLasts, last_of, lowest_free, lowest_silent, seat_at}
+use Rattle.lobby.specs.Lobbies.{LoadsAt}
 use Rattle.lobby.proofs.Attaching.{KeepsLasts-set}
 use Rattle.lobby.proofs.Placed.{silent-found}
-use Rattle.dmix_c.specs.declared.open_ring.OpenRing.{OpenRing}
-use Rattle.dmix_c.specs.RingPlaces.{CameBack, Collects, IsFree, IsHandedOut, Receives, StayFree}
 
 -- a free place is one of the places
 inside-free : (seats : List (Option MixSeat)) (place : ℕ) (s : MixSeat) → seat_at seats place ≡ Some s → place < length seats

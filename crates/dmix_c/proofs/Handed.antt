@@ -1,7 +1,5 @@
 -- A call by a handle, from the call by what it stands for.
-use Rattle.std.proofs.Common.{◌≡◌, ℤ, sym, subst}
-use Rattle.std.specs.Prelude.{Option, Some}
-use Rattle.dmix_c.specs.declared.opened.Opened.{Opened}
+use Rattle.dmix_c.specs.Prelude.{subst, sym, ℤ, ◌≡◌, Option, Some, Opened}
 
 -- of any relation of what a handle stands for before and after: `taken` was taken, `given` put back
 pub handed : (Does : Option Opened → Option Opened → ℤ → Type 0) (before after : Option Opened) (taken given was : Opened) (answer said : ℤ)

@@ -1,22 +1,10 @@
 -- What it comes to that a handle is opened or closed, by the steps of the call.
-use Rattle.std.proofs.Common.{◌≡◌, ℕ, ℤ, ap, inl, inr, refl, subst, sym, ◌∙◌}
-use Rattle.std.specs.Prelude.{◌⊎◌, ◌↔◌, ◌||◌, Bool, true, false, IsSome, IsTrue, Option, None, Some, pos}
-use Rattle.std.specs.Option.{is_some}
-use Rattle.std.proofs.lemmas.Bool.{false≢true}
-use Rattle.snd_base.specs.declared.errors.PcmError.{PcmError}
-use Rattle.snd_base.specs.declared.errors.PcmError.TheVariants.{Again, Memory, NotSupported}
-use Rattle.sum_table.specs.Seats.{member_of}
-use Rattle.dmix_c.specs.declared.open_ring.OpenRing.{OpenRing}
+use Rattle.dmix_c.specs.Prelude.{ap, inl, inr, refl, subst, sym, ℕ, ℤ, ◌∙◌, ◌≡◌, false≢true, is_some, Bool, false, IsSome, IsTrue, None, Option, pos, Some}
+use Rattle.dmix_c.specs.Prelude.{true, ◌||◌, ◌↔◌, ◌⊎◌, PcmError, Again, Memory, NotSupported, member_of, OpenRing, Opened, Client, Reader, Ring, RingParams}
+use Rattle.dmix_c.specs.Prelude.{Recording, bad_handle, error_number, handle_in_use, Closes, Ends, is_kind, OpensAt, OpensBoth, OpensBy, OpensPair}
+use Rattle.dmix_c.specs.Prelude.{OpensReaderAt, OpensStream, CanOpen, GivesNone, GivesPlace, GivesReader, IsNewPair, KeepsRing}
 use Rattle.dmix_c.specs.declared.opened.Kind.{Kind}
-use Rattle.dmix_c.specs.declared.opened.Opened.{Opened}
-use Rattle.dmix_c.specs.declared.opened.Opened.TheVariants.{Client, Reader, Ring}
-use Rattle.dmix_c.specs.declared.params.RingParams.{RingParams}
 use Rattle.dmix_c.specs.declared.playback.Playback.{Playback}
-use Rattle.dmix_c.specs.declared.recording.Recording.{Recording}
-use Rattle.dmix_c.specs.Answers.{bad_handle, error_number, handle_in_use}
-use Rattle.dmix_c.specs.Handles.{Closes, Ends, OpensAt, OpensBoth, OpensBy, OpensPair, OpensReaderAt, OpensStream, is_kind}
-use Rattle.dmix_c.specs.Params.{CanOpen}
-use Rattle.dmix_c.specs.RingPlaces.{GivesNone, GivesPlace, GivesReader, IsNewPair, KeepsRing}
 use Rattle.dmix_c.proofs.Ringed.{source_of-some}
 
 -- what was taken from a handle, by what was seen of its kind

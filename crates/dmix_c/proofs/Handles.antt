@@ -1,33 +1,15 @@
 -- The machine values of a `Held`. Assumes `Logic`.
-use Rattle.std.proofs.Common.{◌≡◌, ℕ, List, [], ◌∷◌, ◌++◌, refl, subst}
-use mathlib.Core.Bool.{false≢true}
-use seplogic.Ra.Ura.{Ura}
+use Rattle.dmix_c.specs.Prelude.{List, refl, subst, w64, ℕ, [], ◌++◌, ◌∷◌, ◌≡◌, false≢true, IsSome, None, Option, Some, handle_tells, Good, box_owns, fst∗}
+use Rattle.dmix_c.specs.Prelude.{never, RawPtr, lone, layout, Laws, RattleType, Valss, block_ptr, in_a_block, null_ptr, Ptr, ptr_val, nothing, shape, within}
+use Rattle.dmix_c.specs.Prelude.{of_list, Val, vint, vptr, vstruct, Ura, drop, feq_i, feq_l, fjoin, fpack, fpick, fsplit, Goal, Item, move, rewrite, Seq, Step}
+use Rattle.dmix_c.specs.Prelude.{step, ‵, ◌$◌, Logic, sem, may_own}
+use Rattle.std.specs.contracts.impls.GlobalAllocator.TheImpl.{ghosts}
 use mir.Raw.{raw as bare}
-use mir.Val.{Val, vint, vptr, vstruct, of_list}
-use mir.Syntax.{w64}
-use base.Logic.{never, fst∗}
-use types.Logic.{Logic, sem}
-use types.Kit.{Item, Goal, Seq, Step, step, ‵, ◌$◌, move, drop, fsplit, fjoin, fpick, fpack, rewrite, feq_i, feq_l}
-use denote.RattleType.{RattleType, Valss}
-use denote.Builtin.{RawPtr}
-use denote.Memory.{lone}
-use denote.RawPtr.{Ptr, block_ptr, null_ptr, ptr_val, in_a_block}
-use denote.Steps.{nothing}
-use denote.Param.{layout}
-use denote.Param.Laws.{Laws}
-use denote.Struct.Struct.{within}
-use denote.Struct.Owning.{shape}
-use Rattle.core.proofs.alloc.Calls.{handle_tells}
-use Rattle.core.proofs.cell.Inside.{Good}
-use Rattle.std.specs.Prelude.{Option, None, Some, IsSome}
+use Rattle.dmix_c.proofs.Boxes.{allocator_of, words}
 use Rattle.std.specs.contracts.alloc.Global as heap
 use Rattle.std.proofs.alloc.Global.TheLaws as heap_laws
-use Rattle.std.specs.contracts.impls.GlobalAllocator.TheImpl.{ghosts}
-use Rattle.std_alloc.specs.Box.Ownership.{box_owns}
-use Rattle.dmix_c.specs.Owned.{may_own}
 use Rattle.dmix_c.specs.contracts.opened.Opened as opened
 use Rattle.dmix_c.specs.contracts.handle.Held as held
-use Rattle.dmix_c.proofs.Boxes.{allocator_of, words}
 
 abbrev pub R : RattleType
 R = opened.the_row

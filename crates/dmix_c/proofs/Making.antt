@@ -1,35 +1,15 @@
 -- A call of a client at its seat, from what the client's own call says.
-use Rattle.std.proofs.Common.{◌≡◌, ℕ, refl, sym, ◌∙◌, ap, subst}
-use Rattle.std.specs.Prelude.{false, ℤ, List, Result, Ok, Err, Option, Some, None}
-use Rattle.std.proofs.lemmas.Bool.{false≢true}
-use Rattle.snd_base.specs.declared.errors.PcmError.{PcmError}
-use Rattle.mix_core.specs.declared.gate.NeverStops.{NeverStops}
-use Rattle.mix_core.specs.Port.{PortView}
-use Rattle.sum_table.specs.declared.seats.mix.MixSeat.{MixSeat}
-use Rattle.sum_table.specs.Seats.{seat_view}
-use Rattle.course.specs.AtPort.{LaysAt, LoadsAt, NoGet, TakesAt}
-use Rattle.course.specs.Course.{Course, ends}
-use Rattle.course.specs.CourseLaws.{Takes-map}
-use Rattle.course.specs.Gives.{Gives}
-use Rattle.course.specs.Stops.{CountsStop}
-use Rattle.pcm_states.specs.declared.calls.Call.{Call}
-use Rattle.pcm_states.specs.declared.calls.Call.TheVariants as call
-use Rattle.pcm_stream.specs.declared.direction.Direction.TheVariants.{Playback}
-use Rattle.pcm_stream.specs.Status.{is_moving, refusal_of}
+use Rattle.dmix_c.specs.Prelude.{ap, List, refl, subst, sym, ℕ, ℤ, ◌∙◌, ◌≡◌, false≢true, Err, false, None, Ok, Option, Result, Some, PcmError, Call, Playback}
+use Rattle.dmix_c.specs.Prelude.{is_moving, refusal_of, NeverStops, PortView, MixSeat, seat_view, LaysAt, LoadsAt, NoGet, TakesAt, Course, ends, Takes-map}
+use Rattle.dmix_c.specs.Prelude.{Gives, CountsStop, PlaybackStream, Answered, CanUse, ClientView, IsSoundClient, done_of, IsBackedBy, StaysBacked, call_course}
+use Rattle.dmix_c.specs.Prelude.{done_course, HasMade, ring_after, no_gate, seat_port, TakesAt-goes}
 use Rattle.dmix_client.specs.declared.stream.Identity.{Identity}
-use Rattle.dmix_client.specs.declared.stream.PlaybackStream.{PlaybackStream}
 use Rattle.dmix_client.specs.CallRelations.{Calls}
-use Rattle.dmix_client.specs.Calls.{Answered}
 use Rattle.dmix_client.specs.Course.{admitted_by, if_admitted}
-use Rattle.dmix_client.specs.Port.{CanUse}
-use Rattle.dmix_client.specs.View.{ClientView, IsSoundClient}
 use Rattle.dmix_c.specs.declared.client_calls.ClientCall.{ClientCall}
-use Rattle.dmix_c.specs.Answers.{done_of}
-use Rattle.dmix_c.specs.Backed.{IsBackedBy, StaysBacked}
-use Rattle.dmix_c.specs.SeatPort.{TakesAt-goes, no_gate, seat_port}
-use Rattle.dmix_c.specs.ClientCalls.{HasMade, call_course, done_course, ring_after}
 use Rattle.dmix_c.proofs.Backing.{still-configured}
 use Rattle.dmix_c.proofs.Unstopped.{IsLeft, Unstopped, unstopped-by}
+use Rattle.pcm_states.specs.declared.calls.Call.TheVariants as call
 
 -- a course that gives nothing, with its answer
 pub done-taken : (s t : MixSeat × NeverStops) (m : Course (Answered (Unit {0}))) (d : PlaybackStream) (result : Result (Unit {0}) PcmError) (made : Result ℕ PcmError)

@@ -1,31 +1,15 @@
 -- A ring that was just opened, and a client at the seat of one of its places.
-use Rattle.std.proofs.Common.{◌≡◌, ℕ, List, [], ◌∷◌, zero, suc, arith, ap, subst, sym, ◌∙◌}
-use Rattle.std.specs.Prelude.{All, nat_lt}
-use Rattle.std.proofs.lemmas.Bool.{false≢true}
-use Rattle.snd_base.specs.declared.geometry.Geometry.{Geometry}
-use Rattle.card_player.specs.declared.player.CardPlayer.{CardPlayer}
-use Rattle.card_player.specs.Plays.{period_of, seat_of}
-use Rattle.sum_table.specs.declared.seats.mix.MixSeat.{MixSeat}
+use Rattle.dmix_c.specs.Prelude.{ap, arith, List, subst, suc, sym, zero, ℕ, [], ◌∙◌, ◌∷◌, ◌≡◌, false≢true, All, nat_lt, Geometry, MixSeat, last_frame}
+use Rattle.dmix_c.specs.Prelude.{member_of, places_of_seat, seat_view, Lobby, IsNewLobby, IsSilentSeat, key_of_lobby, seen_of_lobby, CardPlayer, period_of}
+use Rattle.dmix_c.specs.Prelude.{seat_of, new_client, CanUse, ClientView, OpenRing, RingParams, IsBackedSeat, IsNewPlayback, IsGeometryOf, GivesPlace}
+use Rattle.dmix_c.specs.Prelude.{IsAtStart, IsHandedOut, IsNewOpenRing, AreOfPlace, IsSamePlace}
 use Rattle.sum_table.specs.declared.seats.player.PlayerSeat.{PlayerSeat}
 use Rattle.sum_table.specs.declared.view.Key.{Key}
 use Rattle.sum_table.specs.declared.view.View.{View}
-use Rattle.sum_table.specs.Known.{last_frame}
 use Rattle.sum_table.specs.Players.{next_of_player, player_geometry, player_key, player_ring, position_of_player}
 use Rattle.sum_table.specs.Rings.{HasSeats}
-use Rattle.sum_table.specs.Seats.{geometry_of, member_of, places_of_seat, seat_view}
-use Rattle.lobby.specs.declared.lobby.Lobby.{Lobby}
-use Rattle.lobby.specs.Lobbies.{IsNewLobby, IsSilentSeat, key_of_lobby, seen_of_lobby}
-use Rattle.dmix_client.specs.Calls.{new_client}
-use Rattle.dmix_client.specs.Port.{CanUse}
-use Rattle.dmix_client.specs.View.{ClientView}
-use Rattle.dmix_c.specs.declared.open_ring.OpenRing.{OpenRing}
-use Rattle.dmix_c.specs.declared.params.RingParams.{RingParams}
+use Rattle.sum_table.specs.Seats.{geometry_of}
 use Rattle.dmix_c.specs.declared.playback.Playback.{Playback}
-use Rattle.dmix_c.specs.Backed.{IsBackedSeat}
-use Rattle.dmix_c.specs.Clients.{IsNewPlayback}
-use Rattle.dmix_c.specs.Params.{IsGeometryOf}
-use Rattle.dmix_c.specs.RingPlaces.{GivesPlace, IsAtStart, IsHandedOut, IsNewOpenRing}
-use Rattle.dmix_c.specs.SamePlace.{AreOfPlace, IsSamePlace}
 use Rattle.dmix_c.proofs.Seated.{IsSamePlace-same}
 
 -- a client in OPEN

@@ -1,31 +1,17 @@
 -- A ring that captures was just opened, with its card; and a reader at a seat that was split from the ring's.
-use Rattle.std.proofs.Common.{◌≡◌, [], Some, ap, subst, sym, ◌∙◌}
-use Rattle.std.specs.Prelude.{Bool, true, false, None}
-use Rattle.snd_base.specs.declared.geometry.Geometry.{Geometry}
-use Rattle.snd_base.specs.declared.places.Cursor.{Cursor}
-use Rattle.card_player.specs.declared.player.CardPlayer.{CardPlayer}
-use Rattle.card_player.specs.Plays.{at_frame}
-use Rattle.card_sim.specs.Runs.{period_of, player_of, writer_of}
-use Rattle.card_sim.specs.Steps.{AreInStep, IsAtPublished}
-use Rattle.snoop_table.specs.declared.seats.reader.ReaderSeat.{ReaderSeat}
+use Rattle.dmix_c.specs.Prelude.{ap, subst, sym, [], ◌∙◌, ◌≡◌, Bool, false, None, Some, true, Geometry, Cursor, ReaderSeat, geometry_of, ring_of, HasSeats}
+use Rattle.dmix_c.specs.Prelude.{Lobby, free_seats, key_of_lobby, places_of_lobby, ring_of_lobby, CardPlayer, at_frame, OpenRing, Card, Duplex, RingParams}
+use Rattle.dmix_c.specs.Prelude.{Recording, IsGeometryOf, IsNewRecording, GivesReader, IsAtStart, IsFree, IsNewDuplex, IsNewOpenRing, IsNewPair, KeepsRing}
+use Rattle.dmix_c.specs.Prelude.{source_of}
 use Rattle.snoop_table.specs.declared.seats.writer.WriterSeat.{WriterSeat}
 use Rattle.snoop_table.specs.declared.view.View.{View}
 use Rattle.snoop_table.specs.Captured.{the_track}
 use Rattle.snoop_table.specs.Joins.{HasSplit}
-use Rattle.snoop_table.specs.Readers.{geometry_of, ring_of}
-use Rattle.snoop_table.specs.Rings.{HasSeats}
 use Rattle.snoop_table.specs.Writers.{writer_geometry, writer_ring, writer_track}
-use Rattle.lobby.specs.declared.lobby.Lobby.{Lobby}
-use Rattle.lobby.specs.Lobbies.{free_seats, key_of_lobby, places_of_lobby, ring_of_lobby}
+use Rattle.card_sim.specs.Runs.{period_of, player_of, writer_of}
+use Rattle.card_sim.specs.Steps.{AreInStep, IsAtPublished}
 use Rattle.dmix_c.specs.declared.duplex_card.DuplexCard.{DuplexCard}
-use Rattle.dmix_c.specs.declared.open_ring.OpenRing.{OpenRing}
-use Rattle.dmix_c.specs.declared.opened.Opened.TheVariants.{Card, Duplex}
-use Rattle.dmix_c.specs.declared.params.RingParams.{RingParams}
 use Rattle.dmix_c.specs.declared.playing_card.PlayingCard.{PlayingCard}
-use Rattle.dmix_c.specs.declared.recording.Recording.{Recording}
-use Rattle.dmix_c.specs.Params.{IsGeometryOf}
-use Rattle.dmix_c.specs.Readers.{IsNewRecording}
-use Rattle.dmix_c.specs.RingPlaces.{GivesReader, IsAtStart, IsFree, IsNewDuplex, IsNewOpenRing, IsNewPair, KeepsRing, source_of}
 use Rattle.dmix_c.proofs.Ringed.{KeepsRing-lobby}
 
 -- a ring with the same places

@@ -1,26 +1,14 @@
 -- A call of a reader at its seat, from what the reader's own call says.
-use Rattle.std.proofs.Common.{◌≡◌, ◌≤◌, ℕ, refl, sym, ◌∙◌, ap, subst}
-use Rattle.std.specs.Prelude.{false, Result, Ok, Err, Option, Some, None, unwrap_or}
-use Rattle.snd_base.specs.declared.errors.PcmError.{PcmError}
-use Rattle.mix_core.specs.declared.gate.NeverStops.{NeverStops}
+use Rattle.dmix_c.specs.Prelude.{ap, refl, subst, sym, ℕ, ◌∙◌, ◌≡◌, ◌≤◌, Err, false, None, Ok, Option, Result, Some, unwrap_or, PcmError, Call, Capture}
+use Rattle.dmix_c.specs.Prelude.{refusal_of, NeverStops, ReaderSeat, Course, ends, Takes-map, CaptureStream, done_of, reader_course, reader_done, ReaderHasMade}
+use Rattle.dmix_c.specs.Prelude.{reader_port, TakesAtSnoop-goes, no_gate}
 use Rattle.snoop_core.specs.Port.{SnoopView}
-use Rattle.snoop_table.specs.declared.seats.reader.ReaderSeat.{ReaderSeat}
 use Rattle.snoop_table.specs.Readers.{seat_view}
 use Rattle.course.specs.AtSnoopPort.{GetsAtSnoop, LoadsAtSnoop, NoLay, TakesAtSnoop}
-use Rattle.course.specs.Course.{Course, ends}
-use Rattle.course.specs.CourseLaws.{Takes-map}
-use Rattle.pcm_states.specs.declared.calls.Call.{Call}
-use Rattle.pcm_stream.specs.declared.direction.Direction.TheVariants.{Capture}
-use Rattle.pcm_stream.specs.Status.{refusal_of}
-use Rattle.dsnoop_client.specs.declared.stream.CaptureStream.{CaptureStream}
 use Rattle.dsnoop_client.specs.Calls.{Answered}
 use Rattle.dsnoop_client.specs.Course.{admitted_by, if_admitted}
 use Rattle.dsnoop_client.specs.View.{CanUse}
 use Rattle.dmix_c.specs.declared.reader_calls.ReaderCall.{ReaderCall}
-use Rattle.dmix_c.specs.Answers.{done_of}
-use Rattle.dmix_c.specs.ReaderCalls.{ReaderHasMade, reader_course, reader_done}
-use Rattle.dmix_c.specs.ReaderPort.{TakesAtSnoop-goes, reader_port}
-use Rattle.dmix_c.specs.SeatPort.{no_gate}
 
 -- a course that gives nothing, with its answer
 pub reader_done-taken : (s t : ReaderSeat × NeverStops) (m : Course (Answered (Unit {0}))) (d : CaptureStream) (result : Result (Unit {0}) PcmError) (made : Result ℕ PcmError)

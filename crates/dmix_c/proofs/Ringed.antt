@@ -1,25 +1,10 @@
 -- A ring keeps its places, and the ways of its places lead to it.
-use Rattle.std.proofs.Common.{◌≡◌, ℕ, zero, suc, ◌<◌, List, [], ◌∷◌, ◌++◌, Option, None, Some, length, get_or, set, arith, ap, refl, subst, sym, ◌∙◌, inl, inr}
-use Rattle.std.specs.Prelude.{All, IfSome, IsSome}
-use Rattle.std.specs.declared.alloc.Global.{Global}
-use Rattle.std.proofs.lemmas.Bool.{cases_eq}
-use Rattle.std.proofs.lemmas.Option.{none-some, same_Some}
-use Rattle.std.proofs.lemmas.List.{get_or-set_other, get_or-set_same, get_or_default}
-use Rattle.rtrb.specs.declared.consumer.Consumer.{Consumer}
-use Rattle.rtrb.specs.Ring.{received}
-use Rattle.sum_table.specs.declared.seats.mix.MixSeat.{MixSeat}
+use Rattle.dmix_c.specs.Prelude.{ap, arith, get_or, inl, inr, length, List, refl, set, subst, suc, sym, zero, ℕ, [], ◌++◌, ◌<◌, ◌∙◌, ◌∷◌, ◌≡◌, cases_eq}
+use Rattle.dmix_c.specs.Prelude.{get_or-set_other, get_or-set_same, get_or_default, none-some, same_Some, All, IfSome, IsSome, None, Option, Some, Global}
+use Rattle.dmix_c.specs.Prelude.{received, Consumer, Geometry, MixSeat, TableId, ReaderSeat, Lobby, free_seats, IsSilentSeat, key_of_lobby, places_of_lobby}
+use Rattle.dmix_c.specs.Prelude.{ring_of_lobby, IsPlace, OpenRing, OnePlace, IsFree, KeepsRing, source_of, AreOfPlace, IsSamePlace, AreNone, IsOfRing, LeadsTo}
+use Rattle.dmix_c.specs.Prelude.{LeadTo}
 use Rattle.sum_table.specs.declared.view.Key.{Key}
-use Rattle.sum_table.specs.Seats.{TableId}
-use Rattle.snd_base.specs.declared.geometry.Geometry.{Geometry}
-use Rattle.snoop_table.specs.declared.seats.reader.ReaderSeat.{ReaderSeat}
-use Rattle.lobby.specs.declared.lobby.Lobby.{Lobby}
-use Rattle.lobby.specs.Lobbies.{IsSilentSeat, free_seats, key_of_lobby, places_of_lobby, ring_of_lobby}
-use Rattle.lobby.specs.Seats.{IsPlace}
-use Rattle.dmix_c.specs.declared.open_ring.OpenRing.{OpenRing}
-use Rattle.dmix_c.specs.declared.way.OnePlace.{OnePlace}
-use Rattle.dmix_c.specs.RingPlaces.{IsFree, KeepsRing, source_of}
-use Rattle.dmix_c.specs.SamePlace.{AreOfPlace, IsSamePlace}
-use Rattle.dmix_c.specs.Ways.{AreNone, IsOfRing, LeadTo, LeadsTo}
 
 abbrev Arrivals : Type 0
 Arrivals = Consumer MixSeat Global OnePlace

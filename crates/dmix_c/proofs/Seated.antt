@@ -1,10 +1,7 @@
 -- A client at its seat keeps its place.
-use Rattle.std.proofs.Common.{◌≡◌, refl}
-use Rattle.sum_table.specs.declared.seats.mix.MixSeat.{MixSeat}
+use Rattle.dmix_c.specs.Prelude.{refl, ◌≡◌, MixSeat, KeepsPlace, IsSamePlace}
 use Rattle.sum_table.specs.Seats.{IsLaterSeat}
 use Rattle.dmix_c.specs.declared.playback.Playback.{Playback}
-use Rattle.dmix_c.specs.Clients.{KeepsPlace}
-use Rattle.dmix_c.specs.SamePlace.{IsSamePlace}
 
 pub IsSamePlace-later : (s t : MixSeat) → IsLaterSeat s t → IsSamePlace s t
 IsSamePlace-later s t goes = record { ring = goes.ring; key = goes.key; member = goes.member; places = goes.places }

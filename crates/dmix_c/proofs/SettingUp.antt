@@ -1,17 +1,10 @@
 -- A stream is set up, and given software parameters, by what was tested before.
-use Rattle.std.proofs.Common.{◌≡◌, ℕ, refl, sym, ap, subst, inl, inr}
-use Rattle.std.specs.Prelude.{◌⊎◌, List, length, Result, Ok, Err, OnErr, OnOk, IfErr, Option, None, Some}
-use Rattle.snd_base.specs.declared.errors.PcmError.{PcmError}
-use Rattle.snd_base.specs.declared.errors.PcmError.TheVariants.{Invalid, Memory}
+use Rattle.dmix_c.specs.Prelude.{ap, inl, inr, length, List, refl, subst, sym, ℕ, ◌≡◌, Err, IfErr, None, Ok, OnErr, OnOk, Option, Result, Some, ◌⊎◌, PcmError}
+use Rattle.dmix_c.specs.Prelude.{Invalid, Memory, Geometry, not-both, same-refusal, done_of, CanConfigure, CanSetUp, SetsUp}
 use Rattle.snd_base.specs.declared.errors.Why.{Why}
 use Rattle.snd_base.specs.declared.errors.Why.TheVariants.{Config}
-use Rattle.snd_base.specs.declared.geometry.Geometry.{Geometry}
 use Rattle.bindings.specs.Answers.{answer_of}
 use Rattle.dmix_c.specs.declared.params.StreamHwParams.{StreamHwParams}
-use Rattle.dmix_c.specs.Answers.{done_of}
-use Rattle.dmix_c.specs.Params.{CanConfigure}
-use Rattle.dmix_c.specs.SettingUp.{CanSetUp, SetsUp}
-use Rattle.pcm_stream.specs.RefusalLaws.{not-both, same-refusal}
 
 -- an error that is answered
 abbrev failed : PcmError → Result ℕ PcmError

@@ -1,13 +1,7 @@
 -- A client that can be written to has no part of a frame, and has written all that it placed.
-use Rattle.std.proofs.Common.{◌≡◌, ◌≤◌, List, ap, arith, inl, inr, refl}
-use Rattle.std.specs.Prelude.{◌⊎◌, Bool, true, false, ℤ, None}
+use Rattle.dmix_c.specs.Prelude.{ap, arith, inl, inr, List, refl, ℤ, ◌≡◌, ◌≤◌, Bool, false, None, true, ◌⊎◌, State, Disconnected, Draining, Open, Paused}
+use Rattle.dmix_c.specs.Prelude.{Prepared, Running, Setup, Suspended, Xrun, Playback, is_moving, refusal_of, PlaybackStream, IsSoundClient}
 use Rattle.pcm_states.specs.declared.calls.Call.TheVariants.{Transfer}
-use Rattle.pcm_states.specs.declared.states.State.{State}
-use Rattle.pcm_states.specs.declared.states.State.TheVariants.{Disconnected, Draining, Open, Paused, Prepared, Running, Setup, Suspended, Xrun}
-use Rattle.pcm_stream.specs.declared.direction.Direction.TheVariants.{Playback}
-use Rattle.pcm_stream.specs.Status.{is_moving, refusal_of}
-use Rattle.dmix_client.specs.declared.stream.PlaybackStream.{PlaybackStream}
-use Rattle.dmix_client.specs.View.{IsSoundClient}
 
 -- the states in which frames are written
 abbrev IsWritable : Bool → State → Type 0

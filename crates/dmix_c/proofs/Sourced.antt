@@ -1,8 +1,5 @@
 -- A reader keeps its ring.
-use Rattle.std.proofs.Common.{◌≡◌, refl}
-use Rattle.snoop_table.specs.Readers.{IsLaterSeat}
-use Rattle.dmix_c.specs.declared.recording.Recording.{Recording}
-use Rattle.dmix_c.specs.Readers.{KeepsSource}
+use Rattle.dmix_c.specs.Prelude.{refl, ◌≡◌, IsLaterSeat, Recording, KeepsSource}
 
 pub KeepsSource-later : (p q : Recording) → IsLaterSeat p.seat q.seat → q.rate ≡ p.rate → KeepsSource p q
 KeepsSource-later p q goes rate = record { ring = (goes.ring, goes.geometry); rate = rate }

@@ -1,12 +1,5 @@
 -- A client with other software parameters can use its seat, and is backed there.
-use Rattle.std.proofs.Math.Logic.{∥∥₁_map}
-use Rattle.mix_core.specs.Port.{PortView}
-use Rattle.sum_table.specs.declared.seats.mix.MixSeat.{MixSeat}
-use Rattle.sw_limits.specs.declared.params.SwParams.{SwParams}
-use Rattle.dmix_client.specs.Calls.{with_params}
-use Rattle.dmix_client.specs.Port.{CanUse}
-use Rattle.dmix_client.specs.View.{ClientView}
-use Rattle.dmix_c.specs.Backed.{IsBackedSeat}
+use Rattle.dmix_c.specs.Prelude.{∥∥₁_map, SwParams, PortView, MixSeat, with_params, CanUse, ClientView, IsBackedSeat}
 
 abbrev pub given : ClientView → SwParams → ClientView
 given c p = record c { stream = with_params c.stream p }

@@ -1,11 +1,7 @@
 -- A write of a client or a read of a reader, by what was tested before it.
-use Rattle.std.proofs.Common.{◌≡◌, ℕ, ◌∙◌, ap}
-use Rattle.std.specs.Prelude.{Result, Err, Option, None, Some}
-use Rattle.snd_base.specs.declared.errors.PcmError.{PcmError}
-use Rattle.snd_base.specs.declared.errors.PcmError.TheVariants.{Invalid}
+use Rattle.dmix_c.specs.Prelude.{ap, ℕ, ◌∙◌, ◌≡◌, Err, None, Option, Result, Some, PcmError, Invalid, not-both, same-refusal}
 use Rattle.snd_base.specs.declared.errors.Why.TheVariants.{Config}
 use Rattle.dmix_c.specs.Transfers.{Transfers}
-use Rattle.pcm_stream.specs.RefusalLaws.{not-both, same-refusal}
 
 module _ (refusal : Option PcmError) (Fits Same Moves : Type 0) (made : Result ℕ PcmError) where
   pub Transfers-refused : (e : PcmError) → refusal ≡ Some e → made ≡ Err e → Same → Transfers refusal Fits Same Moves made

@@ -1,30 +1,15 @@
 -- A client, and a reader, at the gate that never stops isn't stopped by any call.
-use Rattle.std.proofs.Common.{◌≡◌, ◌+◌, arith, refl, subst}
-use Rattle.std.specs.Prelude.{⊤, Bool, true, false, not, ◌&&◌, if◌then◌else◌, IfErr, ℕ, Result, Ok, Err}
-use Rattle.snd_base.specs.declared.errors.PcmError.{PcmError}
-use Rattle.snd_base.specs.declared.errors.PcmError.TheVariants.{Stopped}
-use Rattle.mix_core.specs.declared.gate.NeverStops.{NeverStops}
-use Rattle.mix_core.specs.Gate.{stops_after}
-use Rattle.sum_table.specs.declared.seats.mix.MixSeat.{MixSeat}
-use Rattle.snoop_table.specs.declared.seats.reader.ReaderSeat.{ReaderSeat}
-use Rattle.course.specs.AtPort.{LaysAt, LoadsAt, NoGet, TakesAt}
-use Rattle.course.specs.Course.{Course}
-use Rattle.course.specs.Gives.{Gives, Gives-any, Gives-taken}
-use Rattle.course.specs.Stops.{CountsStop, pass_in}
-use Rattle.pcm_states.specs.declared.calls.Call.TheVariants as call
+use Rattle.dmix_c.specs.Prelude.{arith, refl, subst, ℕ, ◌+◌, ◌≡◌, Bool, Err, false, IfErr, if◌then◌else◌, not, Ok, Result, true, ⊤, ◌&&◌, PcmError, Stopped}
+use Rattle.dmix_c.specs.Prelude.{State, Prepared, Running, NeverStops, MixSeat, ReaderSeat, LaysAt, LoadsAt, NoGet, TakesAt, Course, Gives, Gives-any}
+use Rattle.dmix_c.specs.Prelude.{Gives-taken, CountsStop, pass_in, PlaybackStream, Answered, base_of, committed_by, going_on, going_on_by, is_paused}
+use Rattle.dmix_c.specs.Prelude.{with_new_base, with_number, with_outcome, CallLeaves, checks-done, CountLeaves, RewindLeaves, WriteLeaves, taken_back}
+use Rattle.dmix_c.specs.Prelude.{CaptureStream, reader_port, no_gate, seat_port}
 use Rattle.pcm_states.specs.declared.calls.Outcome.{Outcome}
-use Rattle.pcm_states.specs.declared.states.State.{State}
-use Rattle.pcm_states.specs.declared.states.State.TheVariants.{Prepared, Running}
 use Rattle.pcm_states.specs.Table.{next_of}
+use Rattle.mix_core.specs.Gate.{stops_after}
 use Rattle.dmix_client.specs.declared.commit.Commit.{Commit}
-use Rattle.dmix_client.specs.declared.stream.PlaybackStream.{PlaybackStream}
-use Rattle.dmix_client.specs.Calls.{Answered, base_of, committed_by, going_on, going_on_by, is_paused, with_new_base, with_number, with_outcome}
-use Rattle.dmix_client.specs.EachCall.{CallLeaves, CountLeaves, RewindLeaves, WriteLeaves, checks-done}
-use Rattle.dmix_client.specs.Rewind.{taken_back}
-use Rattle.dsnoop_client.specs.declared.stream.CaptureStream.{CaptureStream}
 use Rattle.dsnoop_client.specs.Port.{Keeps}
-use Rattle.dmix_c.specs.ReaderPort.{reader_port}
-use Rattle.dmix_c.specs.SeatPort.{no_gate, seat_port}
+use Rattle.pcm_states.specs.declared.calls.Call.TheVariants as call
 
 -- an answer of a call that the gate didn't stop
 abbrev pub IsGoing : {X : Type 0} → Result X PcmError → Type 0

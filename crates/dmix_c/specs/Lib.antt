@@ -8,6 +8,7 @@ pub mod Duplex
 pub mod Handles
 pub mod Owned
 pub mod Params
+pub mod Prelude
 pub mod ReaderCalls
 pub mod ReaderPort
 pub mod Readers

@@ -1,28 +1,13 @@
 -- What a call does by its test: one that is refused changes nothing, and one that is admitted takes its course.
-use Rattle.std.proofs.Common.{refl, subst, sym, ◌≡◌}
-use Rattle.std.specs.Prelude.{Err, IsErrAnd, List, None, Ok, Option, Result, Some, ℤ}
-use Rattle.course.specs.AtPort.{TakesAt}
-use Rattle.course.specs.Course.{Course}
-use Rattle.course.specs.Stops.{pass_by}
-use Rattle.mix_core.specs.Port.{PortView}
-use Rattle.mix_core.specs.declared.gate.Gate as gates
-use Rattle.mix_core.specs.declared.gate.Pass.TheVariants.{Go}
-use Rattle.mix_core.specs.declared.port.MixPort as mixport
-use Rattle.pcm_states.specs.declared.calls.Call.{Call}
+use Rattle.dmix_client.specs.Prelude.{List, refl, subst, sym, ◌≡◌, Err, IsErrAnd, None, Ok, Option, Result, Some, ℤ, PcmError, Composes, Call, Playback}
+use Rattle.dmix_client.specs.Prelude.{refusal_of, refused_by, Go, PortView, TakesAt, Course, pass_by, PlaybackStream, Answered, admitted_by, if_admitted}
+use Rattle.dmix_client.specs.Prelude.{AnySamples, Keeps, CanUse, ClientView, IsSoundClient}
 use Rattle.pcm_stream.specs.RefusalLaws.{not-both, passed-on, refusal-of_err, refusal-of_ok, same-refusal}
-use Rattle.pcm_stream.specs.Status.{refusal_of, refused_by}
-use Rattle.pcm_stream.specs.declared.direction.Direction.TheVariants.{Playback}
-use Rattle.snd_base.specs.Relations.{Composes}
-use Rattle.snd_base.specs.declared.errors.PcmError.{PcmError}
+use Rattle.dmix_client.specs.CallRelations.{Calls}
 use Rattle.dmix_client.proofs.Going.{refused-go}
 use Rattle.dmix_client.proofs.Keeping.{Keeps-none}
-use Rattle.dmix_client.specs.CallRelations.{Calls}
-use Rattle.dmix_client.specs.Calls.{Answered}
-use Rattle.dmix_client.specs.Course.{admitted_by, if_admitted}
-use Rattle.dmix_client.specs.Growth.{AnySamples, Keeps}
-use Rattle.dmix_client.specs.Port.{CanUse}
-use Rattle.dmix_client.specs.View.{ClientView, IsSoundClient}
-use Rattle.dmix_client.specs.declared.stream.PlaybackStream.{PlaybackStream}
+use Rattle.mix_core.specs.declared.gate.Gate as gates
+use Rattle.mix_core.specs.declared.port.MixPort as mixport
 
 -- a port and its gate
 abbrev pub both : {S T : Type 0} → S → T → S × T

@@ -1,30 +1,17 @@
 -- Why a sync, a start and a write answered an error: by the position that they loaded, and by where their commits ended.
-use Rattle.std.proofs.Common.{◌≡◌, ℕ, ◌+◌, ◌<◌, ◌≤◌, ◌∙◌, ap, sym, refl, subst, arith, length}
-use Rattle.std.proofs.lemmas.Bool.Decides.{nat_tests}
-use Rattle.std.specs.Prelude.{IfErr, IfNone, Bool, true, false, ◌&&◌, ◌||◌, ◌↔◌, nat_le, if◌then◌else◌, Option, Some, None, IfSome, is_some, slice_index, Result, Ok, Err}
-use Rattle.snd_base.specs.declared.errors.PcmError.{PcmError}
-use Rattle.snd_base.specs.declared.errors.PcmError.TheVariants.{Again, LapEnd, NoDevice, Stopped, Xrun}
-use Rattle.snd_base.specs.declared.errors.XrunWhy.{XrunWhy}
-use Rattle.snd_base.specs.declared.errors.XrunWhy.TheVariants.{Avail, Late}
-use Rattle.snd_base.specs.declared.places.Cursor.{Cursor}
-use Rattle.mix_core.specs.declared.port.Position.{Position}
-use Rattle.pcm_states.specs.declared.states.State.{State}
-use Rattle.pcm_states.specs.declared.states.State.TheVariants.{Prepared, Running}
-use Rattle.pcm_states.specs.declared.calls.Call.{Call}
-use Rattle.pcm_states.specs.declared.calls.Call.TheVariants as call
-use Rattle.pcm_states.specs.declared.calls.Outcome.{Outcome}
-use Rattle.bindings.specs.Bound.{rising}
-use Rattle.dmix_client.specs.declared.commit.Commit.{Commit}
-use Rattle.mix_core.specs.declared.port.Ended.{Ended}
-use Rattle.mix_core.specs.declared.port.Ended.TheVariants as ended
-use Rattle.dmix_client.specs.declared.stream.PlaybackStream.{PlaybackStream}
-use Rattle.dmix_client.specs.Calls.{Answered, accepted_if, commit_count, committed_by, end_channel, end_of_commit, is_running, is_stop, late_at, late_of, over_of, seen_at, with_outcome, after_start, started_in, sync_count, after_sync, taken_of, with_number, written_on}
-use Rattle.dmix_client.specs.Causes.{IsCaused, IsCausedBy, IsGone, IsOfSteps, Reaches}
-use Rattle.mix_core.specs.Port.{IsPast, OnLate, PortView}
-use Rattle.dmix_client.specs.Port.{IsCommit, IsFound, IsFrameStep}
-use Rattle.dmix_client.specs.View.{avail_of, queued_of}
+use Rattle.dmix_client.specs.Prelude.{ap, arith, length, refl, subst, sym, ℕ, ◌+◌, ◌<◌, ◌∙◌, ◌≡◌, ◌≤◌, nat_tests, Bool, Err, false, IfErr, IfNone, IfSome}
+use Rattle.dmix_client.specs.Prelude.{if◌then◌else◌, is_some, nat_le, None, Ok, Option, Result, slice_index, Some, true, ◌&&◌, ◌||◌, ◌↔◌, PcmError, Again}
+use Rattle.dmix_client.specs.Prelude.{LapEnd, NoDevice, XrunWhy, Avail, Cursor, rising, Call, Outcome, State, Prepared, Running, Ended, Position, IsPast}
+use Rattle.dmix_client.specs.Prelude.{OnLate, PortView, Commit, PlaybackStream, accepted_if, after_start, after_sync, Answered, commit_count, committed_by}
+use Rattle.dmix_client.specs.Prelude.{end_channel, end_of_commit, is_running, is_stop, late_at, late_of, over_of, seen_at, started_in, sync_count, taken_of}
+use Rattle.dmix_client.specs.Prelude.{with_number, with_outcome, written_on, IsCaused, IsCausedBy, IsGone, IsOfSteps, Reaches, IsCommit, IsFound, IsFrameStep}
+use Rattle.dmix_client.specs.Prelude.{avail_of, queued_of}
+use Rattle.snd_base.specs.declared.errors.PcmError.TheVariants.{Stopped, Xrun}
+use Rattle.snd_base.specs.declared.errors.XrunWhy.TheVariants.{Late}
 use Rattle.dmix_client.proofs.Ends.{by-test, next-ends, after_start-ends, written-ends}
 use Rattle.dmix_client.proofs.Sound.{none-of}
+use Rattle.pcm_states.specs.declared.calls.Call.TheVariants as call
+use Rattle.mix_core.specs.declared.port.Ended.TheVariants as ended
 
 -- two errors are the same whatever else their calls would answer
 pub same-error : {X : Type 0} {Y : Type 0} (e f : PcmError) → (let r : Result X PcmError = Err e in r) ≡ Err f

@@ -1,25 +1,13 @@
 -- The ways in which a sync, a start and a write can end, each with what is known there.
-use Rattle.std.proofs.Common.{[], arith, refl, ℕ, ◌<◌, ◌∷◌, ◌≡◌}
-use Rattle.std.proofs.lemmas.Bool.Decides.{nat_tests}
-use Rattle.std.specs.Prelude.{Bool, Err, None, Ok, Option, Some, false, if◌then◌else◌, nat_eq, nat_lt, true, ◌&&◌}
-use Rattle.mix_core.specs.declared.port.Position.{Position}
-use Rattle.pcm_states.specs.Table.{done_in, draining, first_outcome, moving, next_of, cell_outcome, refused_in, still_draining, stopped_by}
+use Rattle.dmix_client.specs.Prelude.{arith, refl, ℕ, [], ◌<◌, ◌∷◌, ◌≡◌, nat_tests, Bool, Err, false, if◌then◌else◌, nat_eq, nat_lt, None, Ok, Option, Some}
+use Rattle.dmix_client.specs.Prelude.{true, ◌&&◌, XrunWhy, Cursor, Call, Outcome, State, Disconnected, Draining, Prepared, Running, Setup, Xrun, cell_outcome}
+use Rattle.dmix_client.specs.Prelude.{done_in, draining, first_outcome, moving, next_of, refused_in, still_draining, stopped_by, Status, Position, Commit}
+use Rattle.dmix_client.specs.Prelude.{PlaybackStream, accepted_if, after_start, after_sync, Answered, committed_by, found_at, going_on, in_state, is_stop}
+use Rattle.dmix_client.specs.Prelude.{late_of, seen_at, started_in, stopped_in, taken_of, with_accepted, with_outcome, written_after, KeepsAccepted}
+use Rattle.dmix_client.specs.Prelude.{IsFrameStep, avail_of}
 use Rattle.pcm_states.specs.declared.calls.Call.TheVariants as call
-use Rattle.pcm_states.specs.declared.calls.Call.{Call}
-use Rattle.pcm_states.specs.declared.calls.Outcome.{Outcome}
-use Rattle.pcm_states.specs.declared.states.State.TheVariants.{Disconnected, Draining, Prepared, Running, Setup, Xrun}
-use Rattle.pcm_states.specs.declared.states.State.{State}
-use Rattle.pcm_stream.specs.declared.status.Status.{Status}
 use Rattle.snd_base.specs.declared.errors.PcmError.TheVariants as error
 use Rattle.snd_base.specs.declared.errors.XrunWhy.TheVariants as why
-use Rattle.snd_base.specs.declared.errors.XrunWhy.{XrunWhy}
-use Rattle.snd_base.specs.declared.places.Cursor.{Cursor}
-use Rattle.dmix_client.specs.Calls.{Answered, with_accepted, accepted_if, committed_by, found_at, going_on, in_state, is_stop, late_of, seen_at, with_outcome, after_start, started_in, stopped_in, after_sync, taken_of, written_after}
-use Rattle.dmix_client.specs.Growth.{KeepsAccepted}
-use Rattle.dmix_client.specs.Port.{IsFrameStep}
-use Rattle.dmix_client.specs.View.{avail_of}
-use Rattle.dmix_client.specs.declared.commit.Commit.{Commit}
-use Rattle.dmix_client.specs.declared.stream.PlaybackStream.{PlaybackStream}
 
 -- whatever holds of a choice's two ways holds of the choice
 pub by-test : {A : Type 0} (X : A → Type 0) (b : Bool) (x y : A) → (b ≡ true → X x) → (b ≡ false → X y) → X (if b then x else y)

@@ -1,21 +1,8 @@
 -- How a frame is placed, channel by channel.
-use Rattle.std.proofs.Common.{◌≡◌, ◌∙◌, ℕ, ◌+◌, ◌*◌, ◌/◌, ◌%◌, ◌<◌, ◌≤◌, suc, zero, List, ap, arith, length, refl, sym}
-use Rattle.std.proofs.Math.Nat.{div-lt_iff_lt-mul}
-use Rattle.std.proofs.lemmas.Bool.Decides.{nat_tests}
-use Rattle.std.specs.Prelude.{ℤ, pos, slice_index, slice_index_or}
-use Rattle.snd_base.specs.declared.geometry.Geometry.{Geometry}
-use Rattle.snd_base.specs.declared.places.Cursor.{Cursor}
-use Rattle.snd_base.specs.Places.{IsFrom, cursor_after, first_free}
-use Rattle.mix_core.specs.declared.marks.Marks.{Marks}
-use Rattle.mix_core.specs.declared.port.Ended.{Ended}
-use Rattle.mix_core.specs.declared.port.Ended.TheVariants.{Whole, Late, Stopped}
-use Rattle.mix_core.specs.declared.port.Entry.{Entry}
-use Rattle.mix_core.specs.Port.{PortView}
-use Rattle.bindings.specs.Bound.{AreBindings, rising}
-use Rattle.bindings.specs.RisingLaws.{rising-rises, rising-within}
-use Rattle.dmix_client.specs.declared.stream.PlaybackStream.{PlaybackStream}
-use Rattle.dmix_client.specs.RingLaws.{slot-behind}
-use Rattle.dmix_client.specs.View.{ring_sample, slot_sample}
+use Rattle.dmix_client.specs.Prelude.{ap, arith, length, List, refl, suc, sym, zero, ℕ, ◌%◌, ◌*◌, ◌+◌, ◌/◌, ◌<◌, ◌∙◌, ◌≡◌, ◌≤◌, div-lt_iff_lt-mul, nat_tests}
+use Rattle.dmix_client.specs.Prelude.{pos, slice_index, slice_index_or, ℤ, Geometry, Cursor, cursor_after, first_free, IsFrom, AreBindings, rising}
+use Rattle.dmix_client.specs.Prelude.{rising-rises, rising-within, Marks, Ended, Late, Stopped, Whole, Entry, PortView, PlaybackStream, slot-behind}
+use Rattle.dmix_client.specs.Prelude.{ring_sample, slot_sample}
 
 -- what holds of a late end and of a stop holds of each that isn't whole
 pub not-whole : (X : Ended → Type 0) (e : Ended) → (e ≡ Whole → ⊥) → ((word : ℕ) → X (Late word)) → X Stopped → X e

@@ -1,30 +1,15 @@
 -- What an answer says: that the client goes on, that the gate stopped it, or that a drain is to be made again.
-use Rattle.std.proofs.Common.{refl, subst, sym, ℕ, ◌+◌, ◌≡◌}
-use Rattle.std.specs.Prelude.{Bool, Err, None, Ok, OnOk, Option, Result, Some, false, if◌then◌else◌, true, ◌↔◌}
-use Rattle.course.specs.Stops.{CountsStop, pass_by}
-use Rattle.mix_core.specs.declared.gate.Pass.TheVariants.{Go}
-use Rattle.mix_core.specs.declared.port.Ended.TheVariants as ended
-use Rattle.mix_core.specs.declared.port.Ended.{Ended}
-use Rattle.mix_core.specs.declared.port.Position.{Position}
-use Rattle.pcm_states.specs.Table.{next_of}
-use Rattle.pcm_states.specs.declared.calls.Call.TheVariants as call
-use Rattle.pcm_states.specs.declared.calls.Call.{Call}
-use Rattle.pcm_states.specs.declared.calls.Outcome.{Outcome}
-use Rattle.pcm_states.specs.declared.states.State.TheVariants.{Draining, Prepared, Running}
-use Rattle.pcm_states.specs.declared.states.State.{State}
-use Rattle.pcm_stream.specs.Status.{is_moving, is_refusal, nothing_found, refusal_in, refusal_of, refused_by}
-use Rattle.pcm_stream.specs.declared.direction.Direction.TheVariants.{Playback}
-use Rattle.snd_base.specs.declared.errors.PcmError.TheVariants as error
-use Rattle.snd_base.specs.declared.errors.PcmError.TheVariants.{Again, Stopped}
-use Rattle.snd_base.specs.declared.errors.PcmError.{PcmError}
-use Rattle.snd_base.specs.declared.errors.XrunWhy.TheVariants as why
-use Rattle.snd_base.specs.declared.places.Cursor.{Cursor}
+use Rattle.dmix_client.specs.Prelude.{refl, subst, sym, ℕ, ◌+◌, ◌≡◌, Bool, Err, false, if◌then◌else◌, None, Ok, OnOk, Option, Result, Some, true, ◌↔◌, PcmError}
+use Rattle.dmix_client.specs.Prelude.{Again, Cursor, Call, Outcome, State, Draining, Prepared, Running, next_of, Playback, is_moving, is_refusal, nothing_found}
+use Rattle.dmix_client.specs.Prelude.{refusal_in, refusal_of, refused_by, Go, Ended, Position, CountsStop, pass_by, Commit, PlaybackStream, accepted_if}
+use Rattle.dmix_client.specs.Prelude.{after_start, after_sync, Answered, committed_by, is_stop, late_of, over_of, seen_at, started_in, stopped_in, with_outcome}
+use Rattle.dmix_client.specs.Prelude.{CountsEnd, IsFrameStep, queued_of}
+use Rattle.snd_base.specs.declared.errors.PcmError.TheVariants.{Stopped}
 use Rattle.dmix_client.proofs.Ends.{by-test, next-ends, after_start-ends}
-use Rattle.dmix_client.specs.Calls.{Answered, accepted_if, committed_by, is_stop, late_of, over_of, seen_at, with_outcome, after_start, started_in, stopped_in, after_sync}
-use Rattle.dmix_client.specs.Port.{CountsEnd, IsFrameStep}
-use Rattle.dmix_client.specs.View.{queued_of}
-use Rattle.dmix_client.specs.declared.commit.Commit.{Commit}
-use Rattle.dmix_client.specs.declared.stream.PlaybackStream.{PlaybackStream}
+use Rattle.mix_core.specs.declared.port.Ended.TheVariants as ended
+use Rattle.pcm_states.specs.declared.calls.Call.TheVariants as call
+use Rattle.snd_base.specs.declared.errors.PcmError.TheVariants as error
+use Rattle.snd_base.specs.declared.errors.XrunWhy.TheVariants as why
 
 -- the gate stopped exactly where the commit ended so
 pub told-stop : (e : Ended) (before after : ℕ) → is_stop e ≡ true → CountsEnd e before after → after ≡ before + 1

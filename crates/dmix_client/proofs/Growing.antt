@@ -1,22 +1,10 @@
 -- How a client's segment grows by what a commit places, and which samples the client represents then.
-use Rattle.std.proofs.Common.{add-zero, ap, arith, inl, inr, length, refl, sym, zero-add, ℕ, ◌*◌, ◌++◌, ◌+◌, ◌<◌, ◌∙◌, ◌≡◌, ◌≤◌}
-use Rattle.std.proofs.lemmas.Bool.Decides.{nat_tests}
-use Rattle.std.proofs.lemmas.Bool.{cases_eq}
-use Rattle.std.specs.Prelude.{unwrap_or, Err, List, Ok, min, ℤ}
-use Rattle.bindings.specs.Bound.{AreBindings}
-use Rattle.mix_core.specs.declared.port.Entry.{Entry}
-use Rattle.pcm_states.specs.declared.states.State.TheVariants.{Prepared}
-use Rattle.pcm_stream.specs.declared.status.Status.{Status}
+use Rattle.dmix_client.specs.Prelude.{add-zero, ap, arith, inl, inr, length, List, refl, sym, zero-add, ℕ, ◌*◌, ◌++◌, ◌+◌, ◌<◌, ◌∙◌, ◌≡◌, ◌≤◌, cases_eq}
+use Rattle.dmix_client.specs.Prelude.{nat_tests, Err, min, Ok, unwrap_or, ℤ, AreBindings, Prepared, Status, Entry, Commit, PlaybackStream, accepted_if}
+use Rattle.dmix_client.specs.Prelude.{Answered, taken_of, window_end, run_entries, sample_at, run_entries-append, run_entries-same, Follows, segment_entries}
+use Rattle.dmix_client.specs.Prelude.{StandsFor, StandsUpTo, hw_of, IsSoundClient, ring_sample, ring_with}
 use Rattle.dmix_client.proofs.Sound.{CommitsAs, after, configured-prepared, count-below, min-later, used-below}
 use Rattle.dmix_client.proofs.Storing.{StandsUpTo-written}
-use Rattle.dmix_client.specs.Calls.{window_end, Answered, accepted_if, taken_of}
-use Rattle.dmix_client.specs.Expansion.{run_entries, sample_at}
-use Rattle.dmix_client.specs.ExpansionLaws.{run_entries-append, run_entries-same}
-use Rattle.dmix_client.specs.Growth.{Follows, StandsFor, StandsUpTo, segment_entries}
-use Rattle.dmix_client.specs.View.{IsSoundClient, hw_of, ring_sample}
-use Rattle.dmix_client.specs.Writes.{ring_with}
-use Rattle.dmix_client.specs.declared.commit.Commit.{Commit}
-use Rattle.dmix_client.specs.declared.stream.PlaybackStream.{PlaybackStream}
 
 -- the client after a commit represents the same samples
 pub StandsFor-after : (c b : PlaybackStream) (ring samples : List ℤ) (x : Commit) (count upto : ℕ) (s : Status) (written fed : ℕ)

@@ -1,37 +1,20 @@
 -- What the parts of calls keep, by the courses that they took, and why they answered so.
-use Rattle.std.proofs.Common.{[], subst, add-zero, ap, arith, length, refl, sym, ℕ, ◌*◌, ◌+◌, ◌-◌, ◌<◌, ◌∙◌, ◌≡◌, ◌≤◌}
-use Rattle.std.proofs.Math.Nat.{mul-le-mul_right}
-use Rattle.std.proofs.lemmas.Bool.Decides.{nat_tests}
-use Rattle.std.proofs.lemmas.List.{append-nil}
+use Rattle.dmix_client.specs.Prelude.{add-zero, ap, arith, length, List, refl, subst, sym, ℕ, [], ◌*◌, ◌+◌, ◌-◌, ◌<◌, ◌∙◌, ◌≡◌, ◌≤◌, mul-le-mul_right}
+use Rattle.dmix_client.specs.Prelude.{nat_tests, append-nil, Bool, Err, false, IfOk, IfSome, if◌then◌else◌, is_some, max, min, None, not, Ok, OnOk, Option}
+use Rattle.dmix_client.specs.Prelude.{Result, Some, true, unwrap_or, ℤ, ◌&&◌, ◌||◌, ◌↔◌, PcmError, Geometry, Cursor, end_frame, first_free, IsFrom}
+use Rattle.dmix_client.specs.Prelude.{IsWithin as IsInRing, Composes, AreBindings, Call, Outcome, State, Disconnected, Draining, Paused, Prepared, Running}
+use Rattle.dmix_client.specs.Prelude.{Setup, Xrun, next_of, Playback, Status, is_moving, is_set_up, nothing_found, refusal_in, refusal_of, Go, Ended, Position}
+use Rattle.dmix_client.specs.Prelude.{stops_after, IsPast, OnLate, OnWhole, PortView, IsSamePort, LaysAt, LoadsAt, NoGet, TakesAt, TakesAt-same, ends}
+use Rattle.dmix_client.specs.Prelude.{Takes-parts, CountsStop, pass_by, Commit, PlaybackStream, accepted_if, after_drop, after_pause, after_resume, after_start}
+use Rattle.dmix_client.specs.Prelude.{after_sync, Answered, base_of, commit_count, committed_by, end_channel, end_of_commit, facts_of, is_paused, is_stop}
+use Rattle.dmix_client.specs.Prelude.{late_of, over_of, pending_of, seen_at, start_count, started_in, stopped_in, sync_count, taken_of, with_accepted}
+use Rattle.dmix_client.specs.Prelude.{with_new_base, with_number, written_after, written_on, Explains, ExplainsWrite, IsCaused, commits, looks, resumes, starts}
+use Rattle.dmix_client.specs.Prelude.{starts_taking, syncs, takes_more, write_on, LaysFrames, TakesAt-frames, TakesAt-looks, TakesAt-step, AnySamples, Follows}
+use Rattle.dmix_client.specs.Prelude.{Keeps, KeepsAccepted, segment_entries, StandsFor, StandsUpTo, CanUse, CountsEnd, entries_at, IsCommit, IsFrameStep}
+use Rattle.dmix_client.specs.Prelude.{least_channel, LoadsAndCommits, TakesStep, stored-HasRoom, avail_of, ClientView, hw_of, IsConfigured, IsGoing, IsLaidPast}
+use Rattle.dmix_client.specs.Prelude.{IsMoving, IsSoundClient, queued_of, ring_sample, count_with, ring_with, taken_after}
 use Rattle.std.proofs.lemmas.Result.{on_ok_weaker}
-use Rattle.std.specs.Prelude.{Bool, Err, IfOk, IfSome, List, None, Ok, OnOk, Option, Result, Some, false, if◌then◌else◌, is_some, max, min, not, true, unwrap_or, ℤ, ◌&&◌, ◌||◌, ◌↔◌}
-use Rattle.bindings.specs.Bound.{AreBindings}
-use Rattle.course.specs.AtPort.{IsSamePort, LaysAt, LoadsAt, NoGet, TakesAt, TakesAt-same}
-use Rattle.course.specs.Course.{ends}
-use Rattle.course.specs.CourseLaws.{Takes-parts}
-use Rattle.course.specs.Stops.{CountsStop, pass_by}
-use Rattle.mix_core.specs.Gate.{stops_after}
-use Rattle.mix_core.specs.Port.{IsPast, OnLate, OnWhole, PortView}
-use Rattle.mix_core.specs.declared.gate.Gate as gates
-use Rattle.mix_core.specs.declared.gate.Pass.TheVariants.{Go}
-use Rattle.mix_core.specs.declared.port.Ended.{Ended}
-use Rattle.mix_core.specs.declared.port.MixPort as mixport
-use Rattle.mix_core.specs.declared.port.Position.{Position}
-use Rattle.pcm_states.specs.Table.{next_of}
-use Rattle.pcm_states.specs.declared.calls.Call.TheVariants as call
-use Rattle.pcm_states.specs.declared.calls.Call.{Call}
-use Rattle.pcm_states.specs.declared.calls.Outcome.{Outcome}
-use Rattle.pcm_states.specs.declared.states.State.TheVariants.{Disconnected, Draining, Paused, Prepared, Running, Setup, Xrun}
-use Rattle.pcm_states.specs.declared.states.State.{State}
-use Rattle.pcm_stream.specs.Status.{is_moving, is_set_up, nothing_found, refusal_in, refusal_of}
-use Rattle.pcm_stream.specs.declared.direction.Direction.TheVariants.{Playback}
-use Rattle.pcm_stream.specs.declared.status.Status.{Status}
-use Rattle.snd_base.specs.Places.{IsFrom, IsWithin as IsInRing, end_frame, first_free}
-use Rattle.snd_base.specs.Relations.{Composes}
-use Rattle.snd_base.specs.declared.errors.PcmError.TheVariants as error
-use Rattle.snd_base.specs.declared.errors.PcmError.{PcmError}
-use Rattle.snd_base.specs.declared.geometry.Geometry.{Geometry}
-use Rattle.snd_base.specs.declared.places.Cursor.{Cursor}
+use Rattle.dmix_client.specs.GrowthLaws.{Grows-joined}
 use Rattle.dmix_client.proofs.Caused.{IsCaused-after_start, IsCaused-after_sync, caused-accepted, caused-moved, caused-none, caused-on, after_sync-not_again, written_on-again}
 use Rattle.dmix_client.proofs.Ends.{by-test, after_start-ends, written-ends}
 use Rattle.dmix_client.proofs.Going.{IsStill, OnOk-of, accepted_if-told, after_start-still, after_sync-runs, after_sync-still, told-going, told-stop}
@@ -39,18 +22,10 @@ use Rattle.dmix_client.proofs.Growing.{StandsFor-after, StandsUpTo-filled, accep
 use Rattle.dmix_client.proofs.Looking.{starts-by}
 use Rattle.dmix_client.proofs.Sound.{CanUse-still, CommitsAs, min-none, CommitsAs-seen, CommitsAs-started, CommitsAs-written, IsLoaded, IsMoving-after, IsMoving-seen, IsMoving-written, IsSoundClient-after, IsSoundClient-status, IsSoundClient-stopped, after, configured-moving, configured-prepared, count-whole, hw-started, if-le, next-GoesOn, none-of, not_paused-moving, not_prepared-moving, taken-none, taken_fits, whole-of, whole_least, window_end-above}
 use Rattle.dmix_client.proofs.Storing.{StandsUpTo-written}
-use Rattle.dmix_client.specs.Calls.{Answered, with_accepted, accepted_if, base_of, commit_count, committed_by, after_drop, end_channel, end_of_commit, facts_of, is_paused, is_stop, late_of, over_of, after_pause, pending_of, with_new_base, after_resume, seen_at, start_count, after_start, started_in, stopped_in, sync_count, after_sync, taken_of, with_number, written_after, written_on}
-use Rattle.dmix_client.specs.Causes.{Explains, ExplainsWrite, IsCaused}
-use Rattle.dmix_client.specs.Course.{commits, looks, resumes, starts, starts_taking, syncs, takes_more, write_on}
-use Rattle.dmix_client.specs.CourseLaws.{LaysFrames, TakesAt-frames, TakesAt-looks, TakesAt-step}
-use Rattle.dmix_client.specs.Growth.{AnySamples, Follows, Keeps, KeepsAccepted, StandsFor, StandsUpTo, segment_entries}
-use Rattle.dmix_client.specs.GrowthLaws.{Grows-joined}
-use Rattle.dmix_client.specs.Port.{CanUse, CountsEnd, IsCommit, IsFrameStep, LoadsAndCommits, TakesStep, entries_at, least_channel}
-use Rattle.dmix_client.specs.RingLaws.{stored-HasRoom}
-use Rattle.dmix_client.specs.View.{ClientView, IsConfigured, IsGoing, IsLaidPast, IsMoving, IsSoundClient, avail_of, hw_of, queued_of, ring_sample}
-use Rattle.dmix_client.specs.Writes.{count_with, ring_with, taken_after}
-use Rattle.dmix_client.specs.declared.commit.Commit.{Commit}
-use Rattle.dmix_client.specs.declared.stream.PlaybackStream.{PlaybackStream}
+use Rattle.mix_core.specs.declared.gate.Gate as gates
+use Rattle.mix_core.specs.declared.port.MixPort as mixport
+use Rattle.pcm_states.specs.declared.calls.Call.TheVariants as call
+use Rattle.snd_base.specs.declared.errors.PcmError.TheVariants as error
 
 -- a client and its ring
 abbrev pub client : PlaybackStream → List ℤ → ClientView

@@ -1,21 +1,11 @@
 -- The loops that place a frame, and frames, take their courses.
-use Rattle.std.proofs.Common.{◌≡◌, ℕ, ◌+◌, ◌-◌, ◌*◌, ◌%◌, ◌<◌, ◌≤◌, zero, suc, refl, sym, ap, ◌∙◌, subst, arith, List, length, drop}
-use Rattle.std.proofs.lemmas.List.{drop_all, drop_more}
-use Rattle.std.specs.Prelude.{ℤ, slice_index}
-use Rattle.mix_core.specs.declared.gate.Gate as gates
-use Rattle.mix_core.specs.declared.port.Ended.{Ended}
-use Rattle.mix_core.specs.declared.port.Ended.TheVariants.{Whole, Late, Stopped}
-use Rattle.mix_core.specs.declared.port.Entry.{Entry}
-use Rattle.mix_core.specs.declared.port.MixPort as mixport
-use Rattle.course.specs.AtPort.{LaysAt, LoadsAt, NoGet, TakesAt}
-use Rattle.course.specs.Course.{◌>>=◌, ends}
-use Rattle.course.specs.CourseLaws.{Takes-map, Takes-parts, Takes-then}
-use Rattle.dmix_client.specs.declared.commit.Commit.{Commit}
-use Rattle.dmix_client.specs.declared.stream.PlaybackStream.{PlaybackStream}
-use Rattle.dmix_client.specs.Course.{go_on, lay_each, lay_frame, lay_frames, lay_on, nothing, one_frame_more, one_more}
-use Rattle.dmix_client.specs.CourseLaws.{channel_entry}
-use Rattle.dmix_client.specs.View.{ring_sample, slot_sample}
+use Rattle.dmix_client.specs.Prelude.{ap, arith, drop, length, List, refl, subst, suc, sym, zero, ℕ, ◌%◌, ◌*◌, ◌+◌, ◌-◌, ◌<◌, ◌∙◌, ◌≡◌, ◌≤◌, drop_all}
+use Rattle.dmix_client.specs.Prelude.{drop_more, slice_index, ℤ, Ended, Late, Stopped, Whole, Entry, LaysAt, LoadsAt, NoGet, TakesAt, ends, ◌>>=◌, Takes-map}
+use Rattle.dmix_client.specs.Prelude.{Takes-parts, Takes-then, Commit, PlaybackStream, go_on, lay_each, lay_frame, lay_frames, lay_on, nothing, one_frame_more}
+use Rattle.dmix_client.specs.Prelude.{one_more, channel_entry, ring_sample, slot_sample}
 use Rattle.dmix_client.proofs.Frames.{not-whole}
+use Rattle.mix_core.specs.declared.gate.Gate as gates
+use Rattle.mix_core.specs.declared.port.MixPort as mixport
 
 -- what the channels from here on end in is what all end in
 abbrev pub Rest : {S T : Type 0} → mixport.Ghosts S → gates.Ghosts T → ℕ → ℕ → List ℕ → (ℕ → ℤ) → List ℕ → S × T → S × T → ℕ → Type 0

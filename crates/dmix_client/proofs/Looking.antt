@@ -1,24 +1,13 @@
 -- The calls take their courses, by what their parts took.
-use Rattle.std.proofs.Common.{◌≡◌, ◌<◌, ℕ, ap, arith, refl, subst, List}
-use Rattle.std.proofs.lemmas.Bool.Decides.{nat_tests}
-use Rattle.std.specs.Prelude.{ℤ, nat_eq, Ok, false, true, Option, None, Some}
-use Rattle.snd_base.specs.declared.places.Cursor.{Cursor}
+use Rattle.dmix_client.specs.Prelude.{ap, arith, List, refl, subst, ℕ, ◌<◌, ◌≡◌, nat_tests, false, nat_eq, None, Ok, Option, Some, true, ℤ, Cursor, Call, State}
+use Rattle.dmix_client.specs.Prelude.{Draining, Running, is_moving, Position, LaysAt, LoadsAt, NoGet, TakesAt, ◌>>=◌, Takes-map, Takes-then, Commit}
+use Rattle.dmix_client.specs.Prelude.{PlaybackStream, after_resume, after_start, after_sync, Answered, is_running, pending_of, start_count, started_in}
+use Rattle.dmix_client.specs.Prelude.{sync_count, taken_of, with_new_base, with_number, written_after, commits, course_with_number, drain_on, drains, fills}
+use Rattle.dmix_client.specs.Prelude.{looks, nothing, number_course, pause_course, resumes, starts, syncs, takes_more, write_course, write_on, writes_on}
+use Rattle.dmix_client.specs.Prelude.{count_with, frames_in, ring_with}
 use Rattle.mix_core.specs.declared.gate.Gate as gates
 use Rattle.mix_core.specs.declared.port.MixPort as mixport
-use Rattle.mix_core.specs.declared.port.Position.{Position}
-use Rattle.course.specs.AtPort.{LaysAt, LoadsAt, NoGet, TakesAt}
-use Rattle.course.specs.Course.{◌>>=◌}
-use Rattle.course.specs.CourseLaws.{Takes-map, Takes-then}
-use Rattle.pcm_states.specs.declared.states.State.{State}
-use Rattle.pcm_states.specs.declared.states.State.TheVariants.{Draining, Running}
-use Rattle.pcm_states.specs.declared.calls.Call.{Call}
 use Rattle.pcm_states.specs.declared.calls.Call.TheVariants as call
-use Rattle.dmix_client.specs.declared.commit.Commit.{Commit}
-use Rattle.dmix_client.specs.declared.stream.PlaybackStream.{PlaybackStream}
-use Rattle.pcm_stream.specs.Status.{is_moving}
-use Rattle.dmix_client.specs.Calls.{Answered, is_running, pending_of, with_new_base, after_resume, start_count, after_start, started_in, sync_count, after_sync, taken_of, with_number, written_after}
-use Rattle.dmix_client.specs.Course.{commits, drain_on, drains, fills, looks, nothing, number_course, course_with_number, pause_course, resumes, starts, syncs, takes_more, write_course, write_on, writes_on}
-use Rattle.dmix_client.specs.Writes.{count_with, frames_in, ring_with}
 
 nonzero : (n : ℕ) → 0 < n → nat_eq n 0 ≡ false
 nonzero n some = grind (arith, nat_tests)

@@ -1,13 +1,6 @@
 -- A client that moves frames has counts near each other, and a port that loaded the position still is what its calls ask.
-use Rattle.std.proofs.Common.{◌≡◌, ◌+◌, ◌^◌, ◌<◌, arith, subst, sym}
-use Rattle.std.specs.Prelude.{Err, List, Ok, OnOk, Result, false, true, ℤ}
-use Rattle.snd_base.specs.declared.errors.PcmError.{PcmError}
-use Rattle.snd_base.specs.declared.geometry.Geometry.{Geometry}
-use Rattle.pcm_states.specs.declared.states.State.TheVariants.{Setup}
-use Rattle.pcm_stream.specs.Status.{is_moving}
-use Rattle.dmix_client.specs.declared.stream.PlaybackStream.{PlaybackStream}
-use Rattle.dmix_client.specs.Port.{IsOnCard}
-use Rattle.dmix_client.specs.View.{IsConfigured, IsGoing, IsReady, IsSoundClient}
+use Rattle.dmix_client.specs.Prelude.{arith, List, subst, sym, ◌+◌, ◌<◌, ◌^◌, ◌≡◌, Err, false, Ok, OnOk, Result, true, ℤ, PcmError, Geometry, Setup, is_moving}
+use Rattle.dmix_client.specs.Prelude.{PlaybackStream, IsOnCard, IsConfigured, IsGoing, IsReady, IsSoundClient}
 use Rattle.dmix_client.proofs.Sound.{configured-moving, hw-started}
 
 pub IsReady-moving : (c : PlaybackStream) (ring : List ℤ) → IsSoundClient c ring → is_moving c.status.state ≡ true → c.status.stopped ≡ false → IsReady c

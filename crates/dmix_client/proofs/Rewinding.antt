@@ -1,34 +1,15 @@
 -- What a rewind keeps, and why it answered so: by its load, by its withdrawals, and by both.
-use Rattle.std.proofs.Common.{[], ◌∷◌, add-zero, ap, arith, inl, inr, length, refl, subst, sym, ℕ, ◌++◌, ◌+◌, ◌-◌, ◌<◌, ◌∙◌, ◌≡◌, ◌≤◌}
-use Rattle.std.proofs.lemmas.Bool.Decides.{nat_tests}
-use Rattle.std.proofs.lemmas.Bool.{cases_eq}
-use Rattle.std.specs.Prelude.{Bool, Err, IfSome, List, None, Ok, OnOk, Option, Result, Some, false, if◌then◌else◌, max, min, nat_eq, slice_index, true, unwrap_or, ℤ}
-use Rattle.bindings.specs.Bound.{AreBindings, rising}
-use Rattle.course.specs.AtPort.{IsSamePort, LaysAt, LoadsAt, NoGet, TakesAt, TakesAt-same}
-use Rattle.course.specs.Course.{ends}
-use Rattle.course.specs.CourseLaws.{Takes-map, Takes-parts, Takes-then}
-use Rattle.course.specs.Stops.{CountsStop, pass_by}
-use Rattle.mix_core.specs.Gate.{stops_after}
-use Rattle.mix_core.specs.Laid.{a_withdrawal, an_add}
-use Rattle.mix_core.specs.Port.{IsPast, OnLate, PortView}
-use Rattle.mix_core.specs.declared.gate.Gate as gates
-use Rattle.mix_core.specs.declared.marks.Marks.{Marks}
-use Rattle.mix_core.specs.declared.port.Ended.TheVariants.{Late, Stopped, Whole}
-use Rattle.mix_core.specs.declared.port.Ended.{Ended}
-use Rattle.mix_core.specs.declared.port.Entry.{Entry}
-use Rattle.mix_core.specs.declared.port.MixPort as mixport
-use Rattle.mix_core.specs.declared.port.Position.{Position}
-use Rattle.pcm_states.specs.declared.calls.Call.TheVariants as call
-use Rattle.pcm_states.specs.declared.calls.Outcome.{Outcome}
-use Rattle.pcm_states.specs.declared.states.State.TheVariants.{Paused, Prepared, Running, Xrun}
-use Rattle.pcm_states.specs.declared.states.State.{State}
-use Rattle.pcm_stream.specs.Status.{is_moving, is_set_up}
-use Rattle.snd_base.specs.Places.{IsFrom, first_free}
-use Rattle.snd_base.specs.Relations.{Composes}
-use Rattle.snd_base.specs.declared.errors.PcmError.TheVariants as error
-use Rattle.snd_base.specs.declared.errors.PcmError.{PcmError}
-use Rattle.snd_base.specs.declared.errors.XrunWhy.TheVariants as why
-use Rattle.snd_base.specs.declared.places.Cursor.{Cursor}
+use Rattle.dmix_client.specs.Prelude.{add-zero, ap, arith, inl, inr, length, List, refl, subst, sym, ℕ, [], ◌++◌, ◌+◌, ◌-◌, ◌<◌, ◌∙◌, ◌∷◌, ◌≡◌, ◌≤◌, cases_eq}
+use Rattle.dmix_client.specs.Prelude.{nat_tests, Bool, Err, false, IfSome, if◌then◌else◌, max, min, nat_eq, None, Ok, OnOk, Option, Result, slice_index, Some}
+use Rattle.dmix_client.specs.Prelude.{true, unwrap_or, ℤ, PcmError, Cursor, first_free, IsFrom, Composes, AreBindings, rising, Outcome, State, Paused, Prepared}
+use Rattle.dmix_client.specs.Prelude.{Running, Xrun, is_moving, is_set_up, Marks, Ended, Late, Stopped, Whole, Entry, Position, stops_after, a_withdrawal}
+use Rattle.dmix_client.specs.Prelude.{an_add, IsPast, OnLate, PortView, IsSamePort, LaysAt, LoadsAt, NoGet, TakesAt, TakesAt-same, ends, Takes-map, Takes-parts}
+use Rattle.dmix_client.specs.Prelude.{Takes-then, CountsStop, pass_by, Commit, PlaybackStream, after_sync, Answered, committed_by, over_of, seen_at}
+use Rattle.dmix_client.specs.Prelude.{with_number, IsCaused, course_with_number, nothing, run_entries, sample_at, frames_used, run_entries-append}
+use Rattle.dmix_client.specs.Prelude.{run_entries-same, AnySamples, Keeps, KeepsBack, Loses, segment_entries, StandsFor, TakesAway, CanUse, IsFrameStep}
+use Rattle.dmix_client.specs.Prelude.{least_channel, after_rewind, back_of, checks, held_entries, last_laid, rewind_on, rewindable_of, rewinds, take_frames}
+use Rattle.dmix_client.specs.Prelude.{taken_back, takes_back, without_frames, ClientView, hw_of, IsGoing, IsMoving, IsSoundClient, queued_of, ring_sample}
+use Rattle.dmix_client.specs.RewindCauses.{ExplainsCheck, ExplainsRewind, IsKeptCause}
 use Rattle.dmix_client.proofs.Caused.{IsCaused-plain, caused-error, caused-late, caused-number, caused-other, free-by, other-ok, other-stopped}
 use Rattle.dmix_client.proofs.Ends.{next-ends, after_sync-leaves}
 use Rattle.dmix_client.proofs.Frames.{IsFrom-later}
@@ -36,18 +17,11 @@ use Rattle.dmix_client.proofs.Going.{after_sync-runs}
 use Rattle.dmix_client.proofs.Keeping.{IsSamePort-refl, Keeps-numbered, Synced, client, loaded-kept, loaded-of, unloaded-kept}
 use Rattle.dmix_client.proofs.Sound.{CanUse-still, CommitsAs-seen, IsMoving-seen, configured-moving, hw-started, min-newer, not_prepared-moving}
 use Rattle.dmix_client.proofs.Withdrawing.{AreLeft, HoldsBy, TakesAt-back, TakesAway-behind, TakesAway-joined, TakesAway-none, TookFrames, last_frame, last_place}
-use Rattle.dmix_client.specs.Calls.{Answered, committed_by, over_of, seen_at, after_sync, with_number}
-use Rattle.dmix_client.specs.Causes.{IsCaused}
-use Rattle.dmix_client.specs.Course.{nothing, course_with_number}
-use Rattle.dmix_client.specs.Expansion.{run_entries, sample_at}
-use Rattle.dmix_client.specs.ExpansionLaws.{frames_used, run_entries-append, run_entries-same}
-use Rattle.dmix_client.specs.Growth.{AnySamples, Keeps, KeepsBack, Loses, StandsFor, TakesAway, segment_entries}
-use Rattle.dmix_client.specs.Port.{CanUse, IsFrameStep, least_channel}
-use Rattle.dmix_client.specs.Rewind.{back_of, checks, held_entries, last_laid, rewind_on, rewindable_of, rewinds, after_rewind, take_frames, taken_back, takes_back, without_frames}
-use Rattle.dmix_client.specs.RewindCauses.{ExplainsCheck, ExplainsRewind, IsKeptCause}
-use Rattle.dmix_client.specs.View.{ClientView, IsGoing, IsMoving, IsSoundClient, hw_of, queued_of, ring_sample}
-use Rattle.dmix_client.specs.declared.commit.Commit.{Commit}
-use Rattle.dmix_client.specs.declared.stream.PlaybackStream.{PlaybackStream}
+use Rattle.mix_core.specs.declared.gate.Gate as gates
+use Rattle.mix_core.specs.declared.port.MixPort as mixport
+use Rattle.pcm_states.specs.declared.calls.Call.TheVariants as call
+use Rattle.snd_base.specs.declared.errors.PcmError.TheVariants as error
+use Rattle.snd_base.specs.declared.errors.XrunWhy.TheVariants as why
 
 -- the laws of a port, by those that its trait has
 pub holds-by : {S : Type 0} (P : mixport.Ghosts S) → Composes P.laid → Composes P.loaded

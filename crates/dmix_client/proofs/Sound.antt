@@ -1,31 +1,12 @@
 -- What a sync, a start and a write leave: a client with its counts in order, and a port that it can use.
-use Rattle.std.proofs.Common.{ap, arith, length, refl, subst, suc, sym, zero, ℕ, ◌+◌, ◌-◌, ◌<◌, ◌∙◌, ◌≡◌, ◌≤◌}
-use Rattle.std.proofs.lemmas.Bool.Decides.{nat_tests}
-use Rattle.std.specs.Prelude.{Bool, List, None, OnOk, Option, Some, false, if◌then◌else◌, is_some, max, min, nat_eq, true, unwrap_or, ℤ, ◌&&◌, ◌||◌}
-use Rattle.course.specs.AtPort.{IsSamePort}
-use Rattle.course.specs.Stops.{CountsStop}
-use Rattle.mix_core.specs.Port.{OnWhole, PortView}
-use Rattle.mix_core.specs.declared.port.Ended.TheVariants as ended
-use Rattle.mix_core.specs.declared.port.Ended.{Ended}
-use Rattle.mix_core.specs.declared.port.Position.{Position}
-use Rattle.pcm_states.specs.Table.{next_of}
-use Rattle.pcm_states.specs.declared.calls.Call.{Call}
-use Rattle.pcm_states.specs.declared.calls.Outcome.{Outcome}
-use Rattle.pcm_states.specs.declared.states.State.TheVariants.{Draining, Paused, Prepared, Running, Setup}
-use Rattle.pcm_states.specs.declared.states.State.{State}
-use Rattle.pcm_stream.specs.Status.{is_moving, is_set_up}
-use Rattle.pcm_stream.specs.declared.status.Status.{Status}
-use Rattle.snd_base.specs.Places.{end_frame, first_free}
-use Rattle.snd_base.specs.declared.errors.XrunWhy.{XrunWhy}
-use Rattle.snd_base.specs.declared.places.Cursor.{Cursor}
+use Rattle.dmix_client.specs.Prelude.{ap, arith, length, List, refl, subst, suc, sym, zero, ℕ, ◌+◌, ◌-◌, ◌<◌, ◌∙◌, ◌≡◌, ◌≤◌, nat_tests, Bool, false}
+use Rattle.dmix_client.specs.Prelude.{if◌then◌else◌, is_some, max, min, nat_eq, None, OnOk, Option, Some, true, unwrap_or, ℤ, ◌&&◌, ◌||◌, XrunWhy, Cursor}
+use Rattle.dmix_client.specs.Prelude.{end_frame, first_free, Call, Outcome, State, Draining, Paused, Prepared, Running, Setup, next_of, Status, is_moving}
+use Rattle.dmix_client.specs.Prelude.{is_set_up, Ended, Position, OnWhole, PortView, IsSamePort, CountsStop, Commit, PlaybackStream, commit_count, is_running}
+use Rattle.dmix_client.specs.Prelude.{is_stop, late_at, over_of, seen_at, start_count, started_in, sync_count, taken_of, window_end, frames_used, CanUse}
+use Rattle.dmix_client.specs.Prelude.{IsCommit, IsFrameStep, hw_of, IsConfigured, IsMoving, IsPrepared, IsSoundClient, count_with}
 use Rattle.dmix_client.proofs.Ends.{next-ends}
-use Rattle.dmix_client.specs.Calls.{commit_count, is_running, is_stop, late_at, over_of, seen_at, start_count, started_in, sync_count, taken_of, window_end}
-use Rattle.dmix_client.specs.ExpansionLaws.{frames_used}
-use Rattle.dmix_client.specs.Port.{CanUse, IsCommit, IsFrameStep}
-use Rattle.dmix_client.specs.View.{IsConfigured, IsMoving, IsPrepared, IsSoundClient, hw_of}
-use Rattle.dmix_client.specs.Writes.{count_with}
-use Rattle.dmix_client.specs.declared.commit.Commit.{Commit}
-use Rattle.dmix_client.specs.declared.stream.PlaybackStream.{PlaybackStream}
+use Rattle.mix_core.specs.declared.port.Ended.TheVariants as ended
 
 -- a step of a stream that moves frames: where it still does so nothing was against it, and it goes well only there or at its end
 pub record GoesOn (state : State) (o : Outcome) (gone : Bool) (over : Option (ℕ × ℕ)) (late : Option XrunWhy) : Type 0 where

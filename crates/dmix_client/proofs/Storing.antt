@@ -1,17 +1,7 @@
 -- Which samples a client represents after frames were stored in its local ring.
-use Rattle.std.proofs.Common.{◌++◌, take, drop, ◌≡◌, ℕ, ◌<◌, ◌≤◌, ◌+◌, ◌*◌, ◌%◌, List, refl, sym, ◌∙◌, ap, arith, inl, inr, length, get_or}
-use Rattle.std.proofs.Math.Nat.{mul-le-mul_right}
-use Rattle.std.proofs.Math.Seq.{take-append_seam}
-use Rattle.std.proofs.lemmas.Bool.{cases_lt}
-use Rattle.std.proofs.lemmas.Bool.Decides.{nat_tests}
-use Rattle.std.specs.Prelude.{ℤ, pos, ◌-◌, min}
-use Rattle.dmix_client.specs.declared.stream.PlaybackStream.{PlaybackStream}
-use Rattle.dmix_client.specs.Calls.{taken_of}
-use Rattle.dmix_client.specs.Expansion.{sample_at}
-use Rattle.dmix_client.specs.Growth.{Follows, StandsFor, StandsUpTo}
-use Rattle.dmix_client.specs.RingLaws.{HasRoom, stored-new, stored-old}
-use Rattle.dmix_client.specs.View.{IsConfigured, hw_of}
-use Rattle.dmix_client.specs.Writes.{ring_with}
+use Rattle.dmix_client.specs.Prelude.{ap, arith, drop, get_or, inl, inr, length, List, refl, sym, take, ℕ, ◌%◌, ◌*◌, ◌++◌, ◌+◌, ◌-◌, ◌<◌, ◌∙◌, ◌≡◌, ◌≤◌}
+use Rattle.dmix_client.specs.Prelude.{mul-le-mul_right, take-append_seam, cases_lt, nat_tests, min, pos, ℤ, PlaybackStream, taken_of, sample_at, Follows}
+use Rattle.dmix_client.specs.Prelude.{StandsFor, StandsUpTo, HasRoom, stored-new, stored-old, hw_of, IsConfigured, ring_with}
 use Rattle.dmix_client.proofs.Sound.{taken_fits}
 
 -- a client represents its samples up to the frames that were stored after those it has, where these are samples too

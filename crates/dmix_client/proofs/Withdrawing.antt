@@ -1,38 +1,18 @@
 -- The withdrawals of a rewind take their courses, and which adds a port lost by them at the end of the standing ones.
-use Rattle.std.proofs.Common.{◌≡◌, ℕ, ◌+◌, ◌<◌, ◌≤◌, suc, zero, refl, sym, ◌∙◌, ap, subst, arith, inl, inr, List, length, ◌-◌, [], ◌∷◌, ◌++◌, take, map, get_or, append_assoc}
-use Rattle.std.specs.Prelude.{ℤ, pos, ◌+ℤ◌, ◌-ℤ◌, ◌==◌, ◌&&◌, slice_index, Bool, true, false, nat_eq, if◌then◌else◌, fold}
-use Rattle.std.proofs.Math.Seq.{take-suc}
-use Rattle.std.proofs.lemmas.Bool.{cases_Bool}
-use Rattle.std.proofs.lemmas.Bool.Decides.{nat_tests}
+use Rattle.dmix_client.specs.Prelude.{ap, append_assoc, arith, get_or, inl, inr, length, List, map, refl, subst, suc, sym, take, zero, ℕ, [], ◌++◌, ◌+◌, ◌-◌}
+use Rattle.dmix_client.specs.Prelude.{◌<◌, ◌∙◌, ◌∷◌, ◌≡◌, ◌≤◌, take-suc, cases_Bool, nat_tests, append-nil, map-append, Bool, false, fold, if◌then◌else◌}
+use Rattle.dmix_client.specs.Prelude.{nat_eq, pos, slice_index, true, ℤ, ◌&&◌, ◌+ℤ◌, ◌-ℤ◌, ◌==◌, Cursor, IsFrom, Composes, AreBindings, rising, length-rising}
+use Rattle.dmix_client.specs.Prelude.{Ended, Late, Stopped, Whole, Entry, stops_after, a_withdrawal, an_add, stand_after, total, without_last, IsPast, OnLate}
+use Rattle.dmix_client.specs.Prelude.{OnWhole, pass_of_end, PortView, LaysAt, LoadsAt, NoGet, TakesAt, Takes-parts, Takes-then, Commit, nothing, OnWhole-map}
+use Rattle.dmix_client.specs.Prelude.{frame_entries, run_entries, frames_used, run_entries-append, TakesAway, least_channel, back_on, rewind_left, take_each}
+use Rattle.dmix_client.specs.Prelude.{take_frames, take_on}
 use Rattle.std.proofs.lemmas.Int.{ints}
-use Rattle.std.proofs.lemmas.List.{append-nil, map-append}
 use Rattle.std.proofs.lemmas.List.Sums.{fold-append}
-use Rattle.mix_core.specs.declared.port.Ended.{Ended}
-use Rattle.mix_core.specs.declared.port.Ended.TheVariants.{Whole, Late, Stopped}
-use Rattle.mix_core.specs.Laid.{a_withdrawal, an_add, stand_after, total, without_last}
 use Rattle.mix_core.specs.HistoryLaws.{total-append}
-use Rattle.course.specs.AtPort.{LaysAt, LoadsAt, NoGet, TakesAt}
-use Rattle.course.specs.CourseLaws.{Takes-then, Takes-parts}
-use Rattle.bindings.specs.Bound.{AreBindings, rising}
-use Rattle.bindings.specs.RisingLaws.{length-rising}
-use Rattle.dmix_client.specs.declared.commit.Commit.{Commit}
-use Rattle.dmix_client.specs.Course.{nothing}
-use Rattle.dmix_client.specs.Rewind.{back_on, rewind_left, take_each, take_frames, take_on}
-use Rattle.snd_base.specs.declared.places.Cursor.{Cursor}
-use Rattle.snd_base.specs.Places.{IsFrom}
-use Rattle.snd_base.specs.Relations.{Composes}
-use Rattle.mix_core.specs.declared.port.Entry.{Entry}
-use Rattle.mix_core.specs.Gate.{stops_after}
 use Rattle.mix_core.specs.MarkLaws.{without_last-more}
-use Rattle.mix_core.specs.Port.{IsPast, OnLate, OnWhole, PortView, pass_of_end}
-use Rattle.dmix_client.specs.CourseLaws.{OnWhole-map}
-use Rattle.dmix_client.specs.Expansion.{frame_entries, run_entries}
-use Rattle.dmix_client.specs.ExpansionLaws.{frames_used, run_entries-append}
-use Rattle.dmix_client.specs.Growth.{TakesAway}
-use Rattle.dmix_client.specs.Port.{least_channel}
+use Rattle.dmix_client.proofs.Frames.{IsFrom-later, marks-joined, not-whole, rising-least}
 use Rattle.mix_core.specs.declared.gate.Gate as gates
 use Rattle.mix_core.specs.declared.port.MixPort as mixport
-use Rattle.dmix_client.proofs.Frames.{IsFrom-later, marks-joined, not-whole, rising-least}
 
 -- what the first n channels end in is what all end in
 abbrev pub Back : {S T : Type 0} → mixport.Ghosts S → gates.Ghosts T → ℕ → ℕ → List ℕ → (ℕ → ℤ) → ℕ → S × T → S × T → ℕ → Type 0

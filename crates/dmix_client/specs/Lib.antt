@@ -10,6 +10,7 @@ pub mod ExpansionLaws
 pub mod Growth
 pub mod GrowthLaws
 pub mod Port
+pub mod Prelude
 pub mod Rewind
 pub mod RewindCauses
 pub mod Ring

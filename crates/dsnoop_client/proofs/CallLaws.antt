@@ -1,23 +1,12 @@
 -- What a call does by its test: one that is refused changes nothing, and one that is admitted takes its course.
-use Rattle.std.proofs.Common.{refl, subst, sym, ◌≡◌}
-use Rattle.std.specs.Prelude.{Err, IsErrAnd, None, Ok, Option, Result, Some, false}
-use Rattle.course.specs.AtSnoopPort.{TakesAtSnoop}
-use Rattle.course.specs.Course.{Course}
-use Rattle.mix_core.specs.declared.gate.Gate as gates
-use Rattle.pcm_states.specs.declared.calls.Call.{Call}
+use Rattle.dsnoop_client.specs.Prelude.{refl, subst, sym, ◌≡◌, Err, false, IsErrAnd, None, Ok, Option, Result, Some, PcmError, Call, Capture, refusal_of}
+use Rattle.dsnoop_client.specs.Prelude.{refused_by, SnoopView, TakesAtSnoop, Course, CaptureStream, Answered, admitted_by, if_admitted, Keeps, CanUse}
+use Rattle.dsnoop_client.specs.Prelude.{IsSoundReader}
 use Rattle.pcm_stream.specs.RefusalLaws.{not-both, passed-on, refusal-of_err, refusal-of_ok, same-refusal}
-use Rattle.pcm_stream.specs.Status.{refusal_of, refused_by}
-use Rattle.pcm_stream.specs.declared.direction.Direction.TheVariants.{Capture}
-use Rattle.snd_base.specs.declared.errors.PcmError.{PcmError}
-use Rattle.snoop_core.specs.Port.{SnoopView}
-use Rattle.snoop_core.specs.declared.port.SnoopPort as snoopport
-use Rattle.dsnoop_client.proofs.Refusing.{Keeps-refused, Keeps-still}
 use Rattle.dsnoop_client.specs.CallRelations.{Calls}
-use Rattle.dsnoop_client.specs.Calls.{Answered}
-use Rattle.dsnoop_client.specs.Course.{admitted_by, if_admitted}
-use Rattle.dsnoop_client.specs.Port.{Keeps}
-use Rattle.dsnoop_client.specs.View.{CanUse, IsSoundReader}
-use Rattle.dsnoop_client.specs.declared.stream.CaptureStream.{CaptureStream}
+use Rattle.dsnoop_client.proofs.Refusing.{Keeps-refused, Keeps-still}
+use Rattle.mix_core.specs.declared.gate.Gate as gates
+use Rattle.snoop_core.specs.declared.port.SnoopPort as snoopport
 
 -- a port and its gate
 abbrev pub both : {S T : Type 0} → S → T → S × T

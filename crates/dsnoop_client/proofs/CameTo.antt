@@ -1,19 +1,10 @@
 -- What frames that a port was to get ended in: how many were got, what was asked and counted, and that an overtaken one is shown.
-use Rattle.std.proofs.Common.{◌≡◌, ℕ, ◌+◌, ◌*◌, ◌<◌, ◌≤◌, ◌∙◌, suc, zero, refl, sym, ap, subst, arith, []}
-use Rattle.std.proofs.lemmas.List.{replicate-append-replicate}
-use Rattle.std.specs.Prelude.{replicate, Option}
-use Rattle.snd_base.specs.Relations.{Composes}
+use Rattle.dsnoop_client.specs.Prelude.{ap, arith, refl, subst, suc, sym, zero, ℕ, [], ◌*◌, ◌+◌, ◌<◌, ◌∙◌, ◌≡◌, ◌≤◌, replicate-append-replicate, Option}
+use Rattle.dsnoop_client.specs.Prelude.{replicate, Composes, AsksCompose, stops_after, Got, Overtaken, Stopped, Whole, IsPast, OnOvertaken, pass_of_got}
+use Rattle.dsnoop_client.specs.Prelude.{SnoopView, GetsAtSnoop, LoadsAtSnoop, NoLay, TakesAtSnoop, ends, Takes-parts, gets_frames, one_more}
 use Rattle.mix_core.specs.declared.gate.Gate as gates
 use Rattle.mix_core.specs.declared.gate.StepKind.TheVariants as kind
-use Rattle.mix_core.specs.Gate.{AsksCompose, stops_after}
-use Rattle.snoop_core.specs.declared.port.Got.{Got}
-use Rattle.snoop_core.specs.declared.port.Got.TheVariants.{Whole, Overtaken, Stopped}
 use Rattle.snoop_core.specs.declared.port.SnoopPort as snoopport
-use Rattle.snoop_core.specs.Port.{IsPast, OnOvertaken, SnoopView, pass_of_got}
-use Rattle.course.specs.AtSnoopPort.{GetsAtSnoop, LoadsAtSnoop, NoLay, TakesAtSnoop}
-use Rattle.course.specs.Course.{ends}
-use Rattle.course.specs.CourseLaws.{Takes-parts}
-use Rattle.dsnoop_client.specs.Course.{gets_frames, one_more}
 
 -- how many channels were asked for
 abbrev pub IsLooks : Got → ℕ → ℕ → ℕ → Type 0

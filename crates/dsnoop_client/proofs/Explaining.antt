@@ -1,34 +1,18 @@
 -- What a load of the position makes of a reader, and why its call answers so.
-use Rattle.std.proofs.Common.{◌≡◌, ℕ, ◌-◌, ◌≤◌, ◌∙◌, refl, sym, ap, subst, arith, [], ◌∷◌}
-use Rattle.std.proofs.lemmas.Bool.Decides.{nat_tests}
-use Rattle.std.specs.Prelude.{Bool, true, false, ◌↔◌, nat_le, if◌then◌else◌, IfErr, IfNone, OnOk, Option, Some, None, Result, Ok, Err, ⊤, unwrap_or}
-use Rattle.snd_base.specs.declared.errors.PcmError.{PcmError}
-use Rattle.snd_base.specs.declared.errors.PcmError.TheVariants.{Again, NoDevice, Stopped, Xrun}
+use Rattle.dsnoop_client.specs.Prelude.{ap, arith, refl, subst, sym, ℕ, [], ◌-◌, ◌∙◌, ◌∷◌, ◌≡◌, ◌≤◌, nat_tests, Bool, Err, false, IfErr, IfNone, if◌then◌else◌}
+use Rattle.dsnoop_client.specs.Prelude.{nat_le, None, Ok, OnOk, Option, Result, Some, true, unwrap_or, ⊤, ◌↔◌, PcmError, Again, NoDevice, Xrun, Geometry}
+use Rattle.dsnoop_client.specs.Prelude.{end_frame, first_frame, IsWithin, Call, State, done_in, next_of, refused_in, stopped_by, is_set_up, Pass, Go, Position}
+use Rattle.dsnoop_client.specs.Prelude.{stops_after, SnoopView, LoadsAtSnoop, pass_by, CaptureStream, after_start, after_sync, Answered, facts_with, in_state}
+use Rattle.dsnoop_client.specs.Prelude.{over_of, seen_at, with_avail, with_outcome, Explains, FindsNone, IsMissed, IsOfSteps, Reaches, Keeps, avail_of, CanUse}
+use Rattle.dsnoop_client.specs.Prelude.{is_of_capture, IsSoundReader, IsStart, IsSync}
+use Rattle.snd_base.specs.declared.errors.PcmError.TheVariants.{Stopped}
 use Rattle.snd_base.specs.declared.errors.XrunWhy.TheVariants.{Avail, Overtaken}
-use Rattle.snd_base.specs.declared.geometry.Geometry.{Geometry}
-use Rattle.snd_base.specs.Places.{IsWithin, end_frame, first_frame}
+use Rattle.pcm_states.specs.declared.calls.Outcome.{Outcome}
 use Rattle.mix_core.specs.declared.gate.Gate as gates
 use Rattle.mix_core.specs.declared.gate.StepKind.TheVariants as kind
-use Rattle.mix_core.specs.declared.gate.Pass.{Pass}
-use Rattle.mix_core.specs.declared.gate.Pass.TheVariants.{Go}
-use Rattle.mix_core.specs.declared.port.Position.{Position}
-use Rattle.mix_core.specs.Gate.{stops_after}
-use Rattle.pcm_states.specs.declared.states.State.{State}
 use Rattle.pcm_states.specs.declared.states.State.TheVariants as state
-use Rattle.pcm_states.specs.declared.calls.Call.{Call}
 use Rattle.pcm_states.specs.declared.calls.Call.TheVariants as call
-use Rattle.pcm_states.specs.declared.calls.Outcome.{Outcome}
-use Rattle.pcm_states.specs.Table.{done_in, next_of, refused_in, stopped_by}
-use Rattle.pcm_stream.specs.Status.{is_set_up}
 use Rattle.snoop_core.specs.declared.port.SnoopPort as snoopport
-use Rattle.snoop_core.specs.Port.{SnoopView}
-use Rattle.course.specs.AtSnoopPort.{LoadsAtSnoop}
-use Rattle.course.specs.Stops.{pass_by}
-use Rattle.dsnoop_client.specs.declared.stream.CaptureStream.{CaptureStream}
-use Rattle.dsnoop_client.specs.Calls.{Answered, facts_with, in_state, over_of, seen_at, with_outcome, after_start, after_sync, with_avail}
-use Rattle.dsnoop_client.specs.Causes.{Explains, FindsNone, IsMissed, IsOfSteps, Reaches}
-use Rattle.dsnoop_client.specs.Port.{Keeps}
-use Rattle.dsnoop_client.specs.View.{CanUse, avail_of, IsSoundReader, IsStart, IsSync, is_of_capture}
 
 -- ---- the state table
 

@@ -1,20 +1,16 @@
 -- Frames that were got fill the room of a read, one after the other.
-use Rattle.std.proofs.Common.{◌≡◌, ℕ, ◌+◌, ◌*◌, ◌≤◌, ◌∙◌, suc, zero, refl, sym, ap, subst, arith, List, [], ◌∷◌, ◌++◌, length, drop, take, add-one}
+use Rattle.dsnoop_client.specs.Prelude.{add-one, ap, arith, drop, length, List, pos, refl, subst, suc, sym, take, zero, ℕ, [], ◌*◌, ◌++◌, ◌+◌, ◌∙◌, ◌∷◌, ◌≡◌}
+use Rattle.dsnoop_client.specs.Prelude.{◌≤◌, append-nil, length-append, length-map, map-append, take-append-drop, All, slice_index_or, ℤ, Composes}
+use Rattle.dsnoop_client.specs.Prelude.{Composes-none_after, Got, Overtaken, Stopped, Whole, frame_if, OnGot, SnoopView, AreFrames, bound_samples, Fills}
+use Rattle.dsnoop_client.specs.Prelude.{through_all}
+use Rattle.std.proofs.Math.Seq.{take-append_seam}
 use Rattle.std.proofs.lemmas.Grind.{flat_map-append}
-use Rattle.std.proofs.lemmas.List.{append-nil, length-append, length-map, map-append, take-append-drop}
 use Rattle.std.proofs.lemmas.List.Elements.{All-append}
 use Rattle.std.proofs.lemmas.Slice.{drop-append-drop, drop-put_mid, take-put_mid}
-use Rattle.std.proofs.Math.Seq.{take-append_seam}
-use Rattle.std.specs.Prelude.{ℤ, pos, All, slice_index_or}
 use Rattle.std.specs.List.{range_with_len}
 use borrow.Rule.Slice.PartMut.{put_mid}
-use Rattle.snd_base.specs.Relations.{Composes, Composes-none_after}
 use Rattle.snoop_core.specs.declared.port.Frame.{Frame}
-use Rattle.snoop_core.specs.declared.port.Got.{Got}
-use Rattle.snoop_core.specs.declared.port.Got.TheVariants.{Whole, Overtaken, Stopped}
 use Rattle.snoop_core.specs.declared.port.SnoopPort as snoopport
-use Rattle.snoop_core.specs.Port.{OnGot, SnoopView, frame_if}
-use Rattle.dsnoop_client.specs.Reads.{AreFrames, Fills, bound_samples, through_all}
 
 OnGot-not : (end : Got) (X : Type 0) → (end ≡ Whole → ⊥) → OnGot end X
 OnGot-not Whole X not_whole = absurd (not_whole refl)

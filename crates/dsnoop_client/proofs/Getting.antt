@@ -1,13 +1,8 @@
 -- The loop that gets frames takes its course.
-use Rattle.std.proofs.Common.{◌≡◌, ℕ, ◌+◌, ◌-◌, ◌<◌, suc, refl, sym, subst, arith}
+use Rattle.dsnoop_client.specs.Prelude.{arith, refl, subst, suc, sym, ℕ, ◌+◌, ◌-◌, ◌<◌, ◌≡◌, Got, Overtaken, Stopped, Whole, GetsAtSnoop, LoadsAtSnoop, NoLay}
+use Rattle.dsnoop_client.specs.Prelude.{TakesAtSnoop, ends, Takes-then, get_on, gets_frames, one_more}
 use Rattle.mix_core.specs.declared.gate.Gate as gates
-use Rattle.snoop_core.specs.declared.port.Got.{Got}
-use Rattle.snoop_core.specs.declared.port.Got.TheVariants.{Whole, Overtaken, Stopped}
 use Rattle.snoop_core.specs.declared.port.SnoopPort as snoopport
-use Rattle.course.specs.AtSnoopPort.{GetsAtSnoop, LoadsAtSnoop, NoLay, TakesAtSnoop}
-use Rattle.course.specs.Course.{ends}
-use Rattle.course.specs.CourseLaws.{Takes-then}
-use Rattle.dsnoop_client.specs.Course.{get_on, gets_frames, one_more}
 
 -- what the frames from here on end in is what all end in
 abbrev pub Rest : {S T : Type 0} → snoopport.Ghosts S → gates.Ghosts T → ℕ → ℕ → S × T → S × T → ℕ → Type 0

@@ -1,18 +1,10 @@
 -- The calls take their courses, by what their parts took.
-use Rattle.std.proofs.Common.{◌≡◌, ℕ, refl, sym, subst}
-use Rattle.std.specs.Prelude.{Option}
+use Rattle.dsnoop_client.specs.Prelude.{refl, subst, sym, ℕ, ◌≡◌, Option, Call, Position, Got, GetsAtSnoop, LoadsAtSnoop, NoLay, TakesAtSnoop, Course}
+use Rattle.dsnoop_client.specs.Prelude.{Takes-map, Takes-then, CaptureStream, after_start, after_sync, Answered, read_after, taken_of, with_avail, counts}
+use Rattle.dsnoop_client.specs.Prelude.{gets_frames, reads_first, reads_on, starts, syncs, transfer_on, transfers}
 use Rattle.mix_core.specs.declared.gate.Gate as gates
-use Rattle.mix_core.specs.declared.port.Position.{Position}
-use Rattle.pcm_states.specs.declared.calls.Call.{Call}
 use Rattle.pcm_states.specs.declared.calls.Call.TheVariants as call
-use Rattle.snoop_core.specs.declared.port.Got.{Got}
 use Rattle.snoop_core.specs.declared.port.SnoopPort as snoopport
-use Rattle.course.specs.AtSnoopPort.{GetsAtSnoop, LoadsAtSnoop, NoLay, TakesAtSnoop}
-use Rattle.course.specs.Course.{Course}
-use Rattle.course.specs.CourseLaws.{Takes-map, Takes-then}
-use Rattle.dsnoop_client.specs.declared.stream.CaptureStream.{CaptureStream}
-use Rattle.dsnoop_client.specs.Calls.{Answered, read_after, after_start, after_sync, taken_of, with_avail}
-use Rattle.dsnoop_client.specs.Course.{counts, gets_frames, reads_first, reads_on, starts, syncs, transfer_on, transfers}
 
 module _ {S T : Type 0} (P : snoopport.Ghosts S) (G : gates.Ghosts T) where
   -- a start and a sync, by their loads

@@ -1,35 +1,18 @@
 -- What a read makes of a reader, by its load and by what its frames ended in.
-use Rattle.std.proofs.Common.{◌≡◌, ℕ, ◌+◌, ◌-◌, ◌*◌, ◌<◌, ◌≤◌, ◌⊎◌, ◌∙◌, inl, inr, refl, sym, ap, subst, arith, [], ◌∷◌, List}
-use Rattle.std.proofs.lemmas.Bool.Decides.{nat_tests}
-use Rattle.std.proofs.Math.Nat.{mul-le-mul_right}
-use Rattle.std.specs.Prelude.{Bool, true, false, ◌&&◌, ◌↔◌, ℤ, nat_eq, nat_lt, if◌then◌else◌, replicate, Option, Some, Result, Ok, Err, unwrap_or}
-use Rattle.snd_base.specs.declared.errors.PcmError.{PcmError}
-use Rattle.snd_base.specs.declared.errors.PcmError.TheVariants.{Again, Xrun}
-use Rattle.snd_base.specs.declared.errors.PcmError.TheVariants as error
-use Rattle.snd_base.specs.declared.errors.XrunWhy.TheVariants as why
-use Rattle.snd_base.specs.declared.geometry.Geometry.{Geometry}
-use Rattle.snd_base.specs.Relations.{Composes, Composes-none_after}
-use Rattle.mix_core.specs.declared.gate.Gate as gates
-use Rattle.mix_core.specs.declared.gate.Pass.{Pass}
-use Rattle.mix_core.specs.declared.gate.Pass.TheVariants.{Go, Stop}
-use Rattle.mix_core.specs.declared.gate.StepKind.TheVariants as kind
-use Rattle.mix_core.specs.declared.port.Position.{Position}
-use Rattle.mix_core.specs.Gate.{AsksCompose, stops_after}
-use Rattle.pcm_states.specs.declared.states.State.{State}
-use Rattle.pcm_states.specs.declared.states.State.TheVariants as state
-use Rattle.snoop_core.specs.declared.port.Got.{Got}
-use Rattle.snoop_core.specs.declared.port.Got.TheVariants.{Whole, Overtaken, Stopped}
-use Rattle.snoop_core.specs.declared.port.SnoopPort as snoopport
-use Rattle.snoop_core.specs.Port.{IsPast, SnoopView, pass_of_got}
-use Rattle.course.specs.Stops.{pass_by}
-use Rattle.dsnoop_client.specs.declared.stream.CaptureStream.{CaptureStream}
-use Rattle.dsnoop_client.specs.Calls.{in_state, read_after, read_to, taken_of}
-use Rattle.dsnoop_client.specs.Causes.{FindsNone, IsMissed}
-use Rattle.dsnoop_client.specs.Port.{Asks, IsLookNumber}
-use Rattle.dsnoop_client.specs.Reads.{AreFrames, Fills, GivesFrames}
-use Rattle.dsnoop_client.specs.View.{IsSoundReader, avail_of}
+use Rattle.dsnoop_client.specs.Prelude.{ap, arith, inl, inr, List, refl, subst, sym, ℕ, [], ◌*◌, ◌+◌, ◌-◌, ◌<◌, ◌∙◌, ◌∷◌, ◌≡◌, ◌≤◌, ◌⊎◌, mul-le-mul_right}
+use Rattle.dsnoop_client.specs.Prelude.{nat_tests, Bool, Err, false, if◌then◌else◌, nat_eq, nat_lt, Ok, Option, replicate, Result, Some, true, unwrap_or, ℤ}
+use Rattle.dsnoop_client.specs.Prelude.{◌&&◌, ◌↔◌, PcmError, Again, Xrun, Geometry, Composes, Composes-none_after, State, Pass, Go, Stop, Position, AsksCompose}
+use Rattle.dsnoop_client.specs.Prelude.{stops_after, Got, Overtaken, Stopped, Whole, IsPast, pass_of_got, SnoopView, pass_by, CaptureStream, in_state}
+use Rattle.dsnoop_client.specs.Prelude.{read_after, read_to, taken_of, FindsNone, IsMissed, Asks, IsLookNumber, AreFrames, Fills, GivesFrames, avail_of}
+use Rattle.dsnoop_client.specs.Prelude.{IsSoundReader}
 use Rattle.dsnoop_client.proofs.CameTo.{CameTo, IsUpTo}
 use Rattle.dsnoop_client.proofs.Explaining.{IsExplained, Went, explained-some, explained-went}
+use Rattle.snd_base.specs.declared.errors.PcmError.TheVariants as error
+use Rattle.snd_base.specs.declared.errors.XrunWhy.TheVariants as why
+use Rattle.mix_core.specs.declared.gate.Gate as gates
+use Rattle.mix_core.specs.declared.gate.StepKind.TheVariants as kind
+use Rattle.pcm_states.specs.declared.states.State.TheVariants as state
+use Rattle.snoop_core.specs.declared.port.SnoopPort as snoopport
 
 -- ---- what it gives
 

@@ -1,25 +1,13 @@
 -- A call that the test of a reader's state refuses, and one that it lets pass.
-use Rattle.std.proofs.Common.{◌≡◌, ◌∙◌, ap, refl, subst, sym}
-use Rattle.std.specs.Prelude.{Bool, Err, None, Ok, OnOk, Option, Result, Some, false, if◌then◌else◌, true, ◌↔◌}
-use Rattle.snd_base.specs.declared.errors.PcmError.{PcmError}
+use Rattle.dsnoop_client.specs.Prelude.{ap, refl, subst, sym, ◌∙◌, ◌≡◌, Bool, Err, false, if◌then◌else◌, None, Ok, OnOk, Option, Result, Some, true, ◌↔◌}
+use Rattle.dsnoop_client.specs.Prelude.{PcmError, Call, State, next_of, Capture, is_refusal, nothing_found, refusal_in, refusal_of, refused_by, Pass, Go}
+use Rattle.dsnoop_client.specs.Prelude.{stops_after, pass_by, CaptureStream, Keeps, CanUse, is_running, IsSoundReader}
 use Rattle.snd_base.specs.declared.errors.PcmError.TheVariants as error
 use Rattle.snd_base.specs.declared.errors.XrunWhy.TheVariants as why
 use Rattle.mix_core.specs.declared.gate.Gate as gates
-use Rattle.mix_core.specs.declared.gate.Pass.{Pass}
-use Rattle.mix_core.specs.declared.gate.Pass.TheVariants.{Go}
-use Rattle.mix_core.specs.Gate.{stops_after}
 use Rattle.pcm_states.specs.declared.calls.Call.TheVariants as call
-use Rattle.pcm_states.specs.declared.calls.Call.{Call}
 use Rattle.pcm_states.specs.declared.states.State.TheVariants as state
-use Rattle.pcm_states.specs.declared.states.State.{State}
-use Rattle.pcm_states.specs.Table.{next_of}
-use Rattle.pcm_stream.specs.declared.direction.Direction.TheVariants.{Capture}
-use Rattle.pcm_stream.specs.Status.{is_refusal, nothing_found, refusal_in, refusal_of, refused_by}
 use Rattle.snoop_core.specs.declared.port.SnoopPort as snoopport
-use Rattle.course.specs.Stops.{pass_by}
-use Rattle.dsnoop_client.specs.declared.stream.CaptureStream.{CaptureStream}
-use Rattle.dsnoop_client.specs.Port.{Keeps}
-use Rattle.dsnoop_client.specs.View.{CanUse, IsSoundReader, is_running}
 
 pub OnOk-of : (r : Result (Unit {0}) PcmError) (Y : Type 0) → r ≡ Ok tt → OnOk r Y → Y
 OnOk-of (Ok done) Y is y = y

@@ -1,33 +1,20 @@
 -- What the calls that load the position, and a read, did, by the courses that they took.
-use Rattle.std.proofs.Common.{◌≡◌, ℕ, ◌*◌, ◌≤◌, ◌∙◌, refl, sym, ap, subst, arith, [], ◌++◌, List, drop, length}
-use Rattle.std.specs.Prelude.{ℤ, Bool, true, false, nat_eq, if◌then◌else◌, OnOk, IfOk, IsErrAnd, Option, Result, Ok, Err, unwrap_or}
-use Rattle.snd_base.specs.declared.errors.PcmError.{PcmError}
-use Rattle.snd_base.specs.declared.errors.PcmError.TheVariants.{Again, Xrun}
+use Rattle.dsnoop_client.specs.Prelude.{ap, arith, drop, length, List, refl, subst, sym, ℕ, [], ◌*◌, ◌++◌, ◌∙◌, ◌≡◌, ◌≤◌, Bool, Err, false, IfOk, if◌then◌else◌}
+use Rattle.dsnoop_client.specs.Prelude.{IsErrAnd, nat_eq, Ok, OnOk, Option, Result, true, unwrap_or, ℤ, PcmError, Again, Xrun, Geometry, Composes}
+use Rattle.dsnoop_client.specs.Prelude.{Composes-none_before, Call, AsksCompose, Got, SnoopView, GetsAtSnoop, LoadsAtSnoop, NoLay, TakesAtSnoop, ends}
+use Rattle.dsnoop_client.specs.Prelude.{Takes-parts, CaptureStream, Answered, read_after, taken_of, waits, gets_frames, reads_first, reads_on, starts, syncs}
+use Rattle.dsnoop_client.specs.Prelude.{transfer_on, transfers, IsLookNumber, AreFrames, GivesFrames, through_all, CanUse, HasRoom, IsGoing, IsSoundReader}
+use Rattle.dsnoop_client.specs.Prelude.{IsStart, IsSync}
+use Rattle.pcm_stream.specs.declared.setup.Setup.{Setup}
+use Rattle.dsnoop_client.proofs.CameTo.{gets_frames-come}
+use Rattle.dsnoop_client.proofs.Explaining.{After, NeverOvertaken, same_error, start-after, sync-after, explained-error, why-error}
+use Rattle.dsnoop_client.proofs.Reading.{IsReadExplained, read-explained}
 use Rattle.snd_base.specs.declared.errors.PcmError.TheVariants as error
 use Rattle.snd_base.specs.declared.errors.XrunWhy.TheVariants as why
-use Rattle.snd_base.specs.declared.geometry.Geometry.{Geometry}
-use Rattle.snd_base.specs.Relations.{Composes, Composes-none_before}
 use Rattle.mix_core.specs.declared.gate.Gate as gates
-use Rattle.mix_core.specs.Gate.{AsksCompose}
 use Rattle.pcm_states.specs.declared.states.State.TheVariants as state
-use Rattle.pcm_states.specs.declared.calls.Call.{Call}
 use Rattle.pcm_states.specs.declared.calls.Call.TheVariants as call
-use Rattle.pcm_stream.specs.declared.setup.Setup.{Setup}
-use Rattle.snoop_core.specs.declared.port.Got.{Got}
 use Rattle.snoop_core.specs.declared.port.SnoopPort as snoopport
-use Rattle.snoop_core.specs.Port.{SnoopView}
-use Rattle.course.specs.AtSnoopPort.{GetsAtSnoop, LoadsAtSnoop, NoLay, TakesAtSnoop}
-use Rattle.course.specs.Course.{ends}
-use Rattle.course.specs.CourseLaws.{Takes-parts}
-use Rattle.dsnoop_client.specs.declared.stream.CaptureStream.{CaptureStream}
-use Rattle.dsnoop_client.specs.Calls.{Answered, read_after, taken_of, waits}
-use Rattle.dsnoop_client.specs.Course.{gets_frames, reads_first, reads_on, starts, syncs, transfer_on, transfers}
-use Rattle.dsnoop_client.specs.Port.{IsLookNumber}
-use Rattle.dsnoop_client.specs.Reads.{AreFrames, GivesFrames, through_all}
-use Rattle.dsnoop_client.specs.View.{CanUse, HasRoom, IsGoing, IsSoundReader, IsStart, IsSync}
-use Rattle.dsnoop_client.proofs.CameTo.{gets_frames-come}
-use Rattle.dsnoop_client.proofs.Reading.{IsReadExplained, read-explained}
-use Rattle.dsnoop_client.proofs.Explaining.{After, NeverOvertaken, same_error, start-after, sync-after, explained-error, why-error}
 
 no-looks : (e : PcmError) (next channels n : ℕ) → NeverOvertaken e → IsLookNumber (Err e) next channels n 0
 no-looks (Xrun (why.Overtaken frame channel word)) next channels n never = absurd never

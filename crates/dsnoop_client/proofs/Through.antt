@@ -1,8 +1,6 @@
 -- Frames through bindings.
-use Rattle.std.proofs.Common.{◌≡◌, ℕ, ◌<◌, ◌∙◌, sym, List, length, pos, arith}
-use Rattle.std.proofs.lemmas.List.{ext_get_or, get_or-map, length-map}
-use Rattle.std.specs.Prelude.{ℤ, slice_index, slice_index_or}
-use Rattle.dsnoop_client.specs.Reads.{bound_samples}
+use Rattle.dsnoop_client.specs.Prelude.{arith, length, List, pos, sym, ℕ, ◌<◌, ◌∙◌, ◌≡◌, ext_get_or, get_or-map, length-map, slice_index, slice_index_or, ℤ}
+use Rattle.dsnoop_client.specs.Prelude.{bound_samples}
 
 -- samples that are channel by channel those of a frame through bindings are that frame
 pub through-is : (bindings : List ℕ) (frame part : List ℤ) → length part ≡ length bindings

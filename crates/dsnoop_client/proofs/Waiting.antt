@@ -1,20 +1,11 @@
 -- A reader that runs is ready to read, and a read that doesn't start a prepared one waits.
-use Rattle.std.proofs.Common.{◌≡◌, ℕ, ◌-◌, ◌<◌, ◌≤◌, ap, arith, inl, inr, refl, subst, sym}
-use Rattle.std.proofs.lemmas.Bool.Decides.{nat_tests}
-use Rattle.std.specs.Prelude.{Bool, Err, IfOk, Ok, Result, false, if◌then◌else◌, nat_eq, nat_le, true}
-use Rattle.snd_base.specs.declared.errors.PcmError.{PcmError}
-use Rattle.snd_base.specs.declared.errors.PcmError.TheVariants.{Again}
+use Rattle.dsnoop_client.specs.Prelude.{ap, arith, inl, inr, refl, subst, sym, ℕ, ◌-◌, ◌<◌, ◌≡◌, ◌≤◌, nat_tests, Bool, Err, false, IfOk, if◌then◌else◌, nat_eq}
+use Rattle.dsnoop_client.specs.Prelude.{nat_le, Ok, Result, true, PcmError, Again, is_set_up, TakesAtSnoop, CaptureStream, Answered, waits, read_course}
+use Rattle.dsnoop_client.specs.Prelude.{reads_first, Keeps, CanUse, is_running, IsReady, IsSoundReader, LoadsFor}
+use Rattle.dsnoop_client.proofs.Refusing.{Keeps-still, not-both}
 use Rattle.mix_core.specs.declared.gate.Gate as gates
 use Rattle.pcm_states.specs.declared.states.State.TheVariants as state
-use Rattle.pcm_stream.specs.Status.{is_set_up}
 use Rattle.snoop_core.specs.declared.port.SnoopPort as snoopport
-use Rattle.course.specs.AtSnoopPort.{TakesAtSnoop}
-use Rattle.dsnoop_client.specs.declared.stream.CaptureStream.{CaptureStream}
-use Rattle.dsnoop_client.specs.Calls.{Answered, waits}
-use Rattle.dsnoop_client.specs.Course.{read_course, reads_first}
-use Rattle.dsnoop_client.specs.Port.{Keeps}
-use Rattle.dsnoop_client.specs.View.{CanUse, IsReady, IsSoundReader, LoadsFor, is_running}
-use Rattle.dsnoop_client.proofs.Refusing.{Keeps-still, not-both}
 
 -- the counts of a reader that runs are near each other
 pub IsReady-running : (c : CaptureStream) → IsSoundReader c → c.status.state ≡ state.Running → IsReady c

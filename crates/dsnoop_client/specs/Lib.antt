@@ -4,5 +4,6 @@ pub mod Causes
 pub mod Course
 pub mod FewerReads
 pub mod Port
+pub mod Prelude
 pub mod Reads
 pub mod View

@@ -1,17 +1,9 @@
 -- What a client places are adds, which continue every history.
-use Rattle.std.proofs.Common.{◌≡◌, ℕ, List, [], ◌∷◌, ◌++◌, refl, sym, subst, map, take, length}
-use Rattle.std.specs.Prelude.{ℤ}
+use Rattle.examples.specs.Prelude.{length, List, map, refl, subst, sym, take, ℕ, [], ◌++◌, ◌∷◌, ◌≡◌, ℤ, Geometry, Segment, Entry, entry_row, Row, AreAdds}
+use Rattle.examples.specs.Prelude.{AllContinue, continues, frame_entries, member_entries}
 use Rattle.std.specs.List.{flat_map, range_with_len}
 use Rattle.bindings.specs.Bound.{identity, rising}
-use Rattle.snd_base.specs.declared.geometry.Geometry.{Geometry}
-use Rattle.snd_base.specs.declared.places.Segment.{Segment}
-use Rattle.mix_core.specs.declared.port.Entry.{Entry}
 use Rattle.mix_core.specs.declared.port.Kind.TheVariants.{Added}
-use Rattle.mix_core.specs.History.{Row, entry_row}
-use Rattle.mix_core.specs.Laid.{AreAdds}
-use Rattle.mix_core.specs.Turn.{AllContinue, continues}
-use Rattle.dmix_client.specs.Expansion.{frame_entries}
-use Rattle.examples.specs.Mixing.{member_entries}
 
 AreAdds-append : (es fs : List Entry) → AreAdds es → AreAdds fs → AreAdds (es ++ fs)
 AreAdds-append [] fs one two = two

@@ -1,26 +1,17 @@
 -- What a core has mixed after each of the calls of two clients and of the card.
-use Rattle.std.proofs.Common.{◌≡◌, ℕ, ◌+◌, List, [], ◌∷◌, ◌++◌, refl, sym, ◌∙◌, ap, subst, arith, append-nil, length, map}
-use Rattle.std.specs.Prelude.{ℤ}
-use Rattle.snd_base.specs.declared.geometry.Geometry.{Geometry}
-use Rattle.snd_base.specs.declared.places.Segment.{Segment}
-use Rattle.mix_core.specs.declared.port.Entry.{Entry}
+use Rattle.examples.specs.Prelude.{ap, append-nil, arith, length, List, map, refl, subst, sym, ℕ, [], ◌++◌, ◌+◌, ◌∙◌, ◌∷◌, ◌≡◌, ℤ, Geometry, Segment, Taken}
+use Rattle.examples.specs.Prelude.{Entry, AreExact, AreInOrder, entry_row, Row, taken_words, core_of, TurnLaid, View, segment_of, expand, sample_at, AreSums}
+use Rattle.examples.specs.Prelude.{HasMixed, IsFresh, member_entries}
 use Rattle.mix_core.specs.declared.event.Event.TheVariants.{Publish, Take}
 use Rattle.mix_core.specs.declared.event.Reply.TheVariants.{Published, Took}
-use Rattle.mix_core.specs.declared.event.Taken.{Taken}
 use Rattle.mix_core.specs.declared.turn.Turn.{Turn}
 use Rattle.mix_core.specs.Calls.{IsNew, IsPublished, IsTaken}
-use Rattle.mix_core.specs.History.{AreExact, AreInOrder, Row, entry_row, taken_words}
 use Rattle.mix_core.specs.HistoryLaws.{laid_of-append_published, laid_of-append_rows, laid_of-append_took, taken_words-append_published, taken_words-append_rows, taken_words-append_took}
 use Rattle.mix_core.specs.Stands.{RepresentsHistory}
-use Rattle.mix_core.specs.Turn.{TurnLaid, core_of}
-use Rattle.mix_core.specs.View.{View}
 use Rattle.dmix_client.specs.declared.stream.PlaybackStream.{PlaybackStream}
 use Rattle.dmix_client.specs.declared.stream.Stretch.{Stretch}
-use Rattle.dmix_client.specs.Calls.{segment_of}
-use Rattle.dmix_client.specs.Expansion.{expand, sample_at}
 use Rattle.dmix_client.specs.Growth.{Follows, Grows, StandsFor, segment_entries}
 use Rattle.dmix_client.specs.GrowthLaws.{StandsFor-nothing}
-use Rattle.examples.specs.Mixing.{AreSums, HasMixed, IsFresh, member_entries}
 use Rattle.examples.proofs.Adds.{AllContinue-adds, AreAdds-entries}
 
 -- a new core

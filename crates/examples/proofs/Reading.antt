@@ -1,13 +1,10 @@
 -- A file in pieces: what was read so far and what the pieces to come give are the whole file's sound.
-use Rattle.std.proofs.Common.{◌≡◌, ◌≢◌, ℕ, List, [], ◌∷◌, ◌++◌, sym, ◌∙◌, ap, append-nil, refl, Result, Ok, Err}
-use Rattle.std.specs.Prelude.{ℤ, IsErrAnd}
+use Rattle.examples.specs.Prelude.{ap, append-nil, Err, List, Ok, refl, Result, sym, ℕ, [], ◌++◌, ◌∙◌, ◌∷◌, ◌≡◌, ◌≢◌, IsErrAnd, ℤ, Reader, sound_to_come}
+use Rattle.examples.specs.Prelude.{with_samples, IsRefusal, Reads, wav_file, bytes_of_pieces}
 use Rattle.std.specs.Borrow.{Bor}
 use Rattle.wav_io.specs.declared.error.WavError.{WavError}
 use Rattle.wav_io.specs.declared.error.WavError.TheVariants.{NotRiff, NotWave, NoFormat, FormatTwice, ShortFormat, Tag, Bits, Channels, RateZero, NoData, TooLong, Memory}
-use Rattle.wav_io.specs.Reading.{IsRefusal, Reads, wav_file}
-use Rattle.wav_io.specs.Readers.{Reader, sound_to_come, with_samples}
 use Rattle.wav_io.specs.Sound.{Sound}
-use Rattle.examples.specs.Pieces.{bytes_of_pieces}
 
 with_samples-nil : (r : Result Sound WavError) → with_samples [] r ≡ r
 with_samples-nil (Ok s) = refl

@@ -1,17 +1,11 @@
 -- What the player takes of a word in which two seats placed a sample each.
-use Rattle.std.proofs.Common.{◌≡◌, ℕ, List, [], ◌∷◌, ◌++◌, ap, ◌∙◌, subst, arith}
+use Rattle.examples.specs.Prelude.{ap, arith, List, Ok, Result, subst, ℕ, [], ◌++◌, ◌∙◌, ◌∷◌, ◌≡◌, OnOk, ℤ, ◌+ℤ◌, first_frame, clamp_of, Taken, Entry, AreExact}
+use Rattle.examples.specs.Prelude.{an_add, total, member_of, SeatLaid, view_of}
 use Rattle.std.proofs.lemmas.Int.{ints}
-use Rattle.std.specs.Prelude.{ℤ, ◌+ℤ◌, OnOk, Result, Ok}
 use Rattle.snd_base.specs.declared.errors.PcmError.{PcmError}
 use Rattle.snd_base.specs.declared.places.Cursor.{Cursor}
-use Rattle.snd_base.specs.Places.{first_frame}
-use Rattle.lap_word.specs.Clamp.{clamp_of}
-use Rattle.mix_core.specs.declared.event.Taken.{Taken}
-use Rattle.mix_core.specs.declared.port.Entry.{Entry}
 use Rattle.mix_core.specs.declared.port.Placed.{Placed}
 use Rattle.mix_core.specs.declared.port.Placed.TheVariants.{In}
-use Rattle.mix_core.specs.History.{AreExact}
-use Rattle.mix_core.specs.Laid.{an_add, total}
 use Rattle.mix_core.specs.Port.{ended_of, entry_if}
 use Rattle.sum_table.specs.declared.seats.join.Closed.{Closed}
 use Rattle.sum_table.specs.declared.seats.mix.MixSeat.{MixSeat}
@@ -23,7 +17,6 @@ use Rattle.sum_table.specs.Exact.{the_track}
 use Rattle.sum_table.specs.Joins.{HasClosed, HasJoined, HasSplit}
 use Rattle.sum_table.specs.Players.{HasTaken, track_of}
 use Rattle.sum_table.specs.Rings.{HasSeats}
-use Rattle.sum_table.specs.Seats.{SeatLaid, member_of, view_of}
 
 -- the total of two adds is their sum
 total-two : (m n : ℕ) (a b : ℤ) → total (an_add m 0 0 a ∷ an_add n 0 0 b ∷ []) 0 0 ≡ a +ℤ b

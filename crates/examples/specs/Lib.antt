@@ -1,3 +1,4 @@
 pub mod FirstWord
 pub mod Mixing
 pub mod Pieces
+pub mod Prelude

@@ -1,20 +1,7 @@
 -- Laws of narrowed boxes: nothing lies within one whose part is empty.
-use Rattle.std.specs.Prelude.{◌≡◌, ◌≢◌, ℕ}
-use Rattle.std.proofs.Common.{subst, sym, ap, ◌∙◌}
-use Rattle.pcm_interval.specs.declared.interval.Interval.{Interval}
-use Rattle.pcm_interval.specs.Intervals.{IsEmpty, IsNonEmpty, IsMember, refinement}
-use Rattle.pcm_interval.specs.IntervalLaws.{IsNonEmpty-IsIntervalWithin, IsNonEmpty-IsMember}
-use Rattle.pcm_interval.specs.declared.mask.Mask.{Mask}
-use Rattle.pcm_interval.specs.Masks.{common_mask}
-use Rattle.pcm_interval.specs.MaskLaws.{IsMaskWithin-bits, HasNumber-bits, common_mask-IsMaskWithin_left}
-use Rattle.hw_space.specs.declared.param_box.ParamBox.{ParamBox}
-use Rattle.hw_space.specs.declared.quantity.Quantity.{Quantity}
-use Rattle.hw_space.specs.Boxes.{part, with_part}
-use Rattle.hw_space.specs.BoxLaws.{part-with_part, IsBoxWithin-part}
-use Rattle.hw_space.specs.Narrowings.{with_refined, with_access, with_format}
-use Rattle.hw_space.specs.Settled.{IsVoid}
-use Rattle.hw_space.specs.Widest.{mask_of_one}
-use Rattle.hw_space.specs.Proper.{IsProper}
+use Rattle.hw_space.specs.Prelude.{ap, subst, sym, ◌∙◌, ℕ, ◌≡◌, ◌≢◌, Interval, Mask, IsNonEmpty-IsIntervalWithin, IsNonEmpty-IsMember, IsEmpty, IsMember}
+use Rattle.hw_space.specs.Prelude.{IsNonEmpty, refinement, common_mask-IsMaskWithin_left, HasNumber-bits, IsMaskWithin-bits, common_mask, ParamBox, Quantity}
+use Rattle.hw_space.specs.Prelude.{IsBoxWithin-part, part-with_part, part, with_part, with_access, with_format, with_refined, IsProper, IsVoid, mask_of_one}
 use Rattle.hw_space.proofs.StepLaws.{with_part-IsProper, with_formats-IsProper}
 
 -- nothing lies within a box with an empty part

@@ -1,32 +1,20 @@
 -- Laws of choices: after all steps the chosen parameters are points.
-use Rattle.std.specs.Prelude.{◌≡◌, ◌≢◌, ◌⊎◌, if◌then◌else◌, nat_le, ℕ, ◌+◌, ◌^◌, ◌<◌, ◌≤◌, List, [], ◌∷◌, length, drop, Bool, true, false, IsTrue, Option, Some, None, Result, Ok, Err, refl}
-use Rattle.std.specs.Int.Count.{count_trailing_zeros}
-use Rattle.std.specs.Int.{w64}
-use Rattle.std.proofs.Common.{arith, suc, inl, inr, subst, sym, ap, ◌∙◌, add-one, get_or}
+use Rattle.hw_space.specs.Prelude.{add-one, ap, arith, drop, get_or, inl, inr, subst, suc, sym, ◌∙◌, drop_all, Bool, Err, false, if◌then◌else◌, IsTrue, length}
+use Rattle.hw_space.specs.Prelude.{List, nat_le, None, Ok, Option, refl, Result, Some, true, ℕ, [], ◌+◌, ◌<◌, ◌^◌, ◌∷◌, ◌≡◌, ◌≢◌, ◌≤◌, ◌⊎◌, Empty, Interval}
+use Rattle.hw_space.specs.Prelude.{Mask, IsIntervalWithin-max, IsIntervalWithin-min, IsIntervalWithin-refl, IsIntervalWithin-trans, IsNonEmpty-le}
+use Rattle.hw_space.specs.Prelude.{refined-IsWithin_left, refined-IsWithin_right, IsIntervalWithin, IsNonEmpty, IsNormal, refinement}
+use Rattle.hw_space.specs.Prelude.{common_mask-IsMaskWithin_left, IsMaskWithin-refl, common_mask, ParamBox, Quantity, BufferBytes, BufferSize, BufferTime}
+use Rattle.hw_space.specs.Prelude.{Channels, FrameBits, PeriodBytes, Periods, PeriodSize, PeriodTime, Rate, SampleBits, IsBoxWithin-part, IsBoxWithin-refl}
+use Rattle.hw_space.specs.Prelude.{IsBoxWithin-trans, with_part-IsBoxWithin, IsBoxWithin, part, ChoiceLeaves, choices, Chooses, done, fails, goes, HasPoints}
+use Rattle.hw_space.specs.Prelude.{IsChoice, IsFirstNumber, at_least, at_most, distance, greatest_end, IsNear, least_end, LeavesOf, nearest, point, with_access}
+use Rattle.hw_space.specs.Prelude.{with_format, with_refined, IsProper, IsLeft, IsSettled, Leaves, IsSettled-IsNormal, mask_of_one, whole_from_to}
 use Rattle.std.proofs.Math.Seq.{drop-cons}
-use Rattle.std.proofs.lemmas.List.{drop_all}
 use Rattle.std.proofs.lemmas.Nat.Bits.{bit_at-trailing_zeros}
-use Rattle.pcm_interval.specs.declared.interval.Interval.{Interval}
-use Rattle.pcm_interval.specs.declared.empty.Empty.{Empty}
-use Rattle.pcm_interval.specs.declared.mask.Mask.{Mask}
-use Rattle.pcm_interval.specs.Intervals.{IsNonEmpty, IsNormal, IsIntervalWithin, refinement}
-use Rattle.pcm_interval.specs.IntervalLaws.{IsIntervalWithin-refl, IsIntervalWithin-trans, IsIntervalWithin-min, IsIntervalWithin-max, IsNonEmpty-le, refined-IsWithin_left, refined-IsWithin_right}
-use Rattle.pcm_interval.specs.Masks.{common_mask}
-use Rattle.pcm_interval.specs.MaskLaws.{common_mask-IsMaskWithin_left, IsMaskWithin-refl}
+use Rattle.std.specs.Int.{w64}
+use Rattle.std.specs.Int.Count.{count_trailing_zeros}
 use Rattle.hw_space.specs.declared.choice.Choice.{Choice}
 use Rattle.hw_space.specs.declared.choice.Choice.TheVariants.{Settle, FirstAccess, FirstFormat, First, Last, Near}
 use Rattle.hw_space.specs.declared.config.Config.{Config}
-use Rattle.hw_space.specs.declared.param_box.ParamBox.{ParamBox}
-use Rattle.hw_space.specs.declared.quantity.Quantity.{Quantity}
-use Rattle.hw_space.specs.declared.quantity.Quantity.TheVariants.{SampleBits, FrameBits, Channels, Rate, PeriodTime, PeriodSize, PeriodBytes, Periods, BufferTime, BufferSize, BufferBytes}
-use Rattle.hw_space.specs.Boxes.{part, IsBoxWithin}
-use Rattle.hw_space.specs.BoxLaws.{IsBoxWithin-refl, IsBoxWithin-trans, IsBoxWithin-part, with_part-IsBoxWithin}
-use Rattle.hw_space.specs.Choices.{IsFirstNumber, ChoiceLeaves, Chooses, done, fails, goes, choices, HasPoints, IsChoice}
-use Rattle.hw_space.specs.Narrowings.{with_refined, point, at_most, at_least, least_end, greatest_end, with_access, with_format, distance, nearest, LeavesOf, IsNear}
-use Rattle.hw_space.specs.Settled.{IsSettled, IsLeft, Leaves}
-use Rattle.hw_space.specs.SettledLaws.{IsSettled-IsNormal}
-use Rattle.hw_space.specs.Proper.{IsProper}
-use Rattle.hw_space.specs.Widest.{whole_from_to, mask_of_one}
 use Rattle.hw_space.proofs.StepLaws.{with_formats-IsBoxWithin}
 
 -- ---- the first number of a mask

@@ -1,8 +1,5 @@
 -- What holds where a result is an error.
-use Rattle.std.specs.Prelude.{◌≡◌, Result, Ok, Err, IfOk, IsErrAnd, OnErr, OnOk}
-use Rattle.pcm_interval.specs.declared.empty.Empty.{Empty}
-use Rattle.hw_space.specs.declared.param_box.ParamBox.{ParamBox}
-use Rattle.hw_space.specs.Settled.{IsVoid, Leaves, space_left}
+use Rattle.hw_space.specs.Prelude.{Err, IfOk, IsErrAnd, Ok, OnErr, OnOk, Result, ◌≡◌, Empty, ParamBox, IsVoid, Leaves, space_left}
 
 pub OnErr-always : {T E P : Type 0} (r : Result T E) → P → OnErr r P
 OnErr-always (Ok x) p = tt

@@ -1,30 +1,15 @@
 -- Laws of rules: no settled box and no configuration is missed by what a rule computes.
-use Rattle.std.specs.Prelude.{◌≡◌, ◌≢◌, ℕ, ◌+◌, ◌<◌, ◌↔◌, List, length, All, Bool, ◌||◌, true, false, refl, nat_le, slice_index_or}
-use Rattle.std.proofs.Common.{arith, subst, sym, ◌∙◌, below_more}
-use Rattle.std.proofs.lemmas.List.{get_or_default}
-use Rattle.std.proofs.lemmas.Bool.Decides.{nat_tests}
+use Rattle.hw_space.specs.Prelude.{arith, below_more, subst, sym, ◌∙◌, nat_tests, get_or_default, All, Bool, false, length, List, nat_le, refl, slice_index_or}
+use Rattle.hw_space.specs.Prelude.{true, ℕ, ◌+◌, ◌<◌, ◌||◌, ◌↔◌, ◌≡◌, ◌≢◌, Interval, Mask, IsIntervalWithin-from_same, IsIntervalWithin-trans, IsEmpty}
+use Rattle.hw_space.specs.Prelude.{IsNonEmpty, refinement, IsMaskWithin-from_same, IsMaskWithin-trans, common_mask, HasNumber, IsMaskWithin, ParamBox}
+use Rattle.hw_space.specs.Prelude.{SampleBits, Div, Mul, MulDivK, MulKDiv, Rule, IsBoxWithin, part, with_refined, IsProper, HasScale, IsListed, no_rule, rules}
+use Rattle.hw_space.specs.Prelude.{Configuration, IsExact, IsResult, IsSettled, IsVoid, KeepsBox, LiesInBox, result_of_rule, computed-IsIntervalWithin}
+use Rattle.hw_space.specs.Prelude.{IsBoxStep}
 use Rattle.std.proofs.lemmas.List.Sums.{AllPass-from_list_all}
-use Rattle.pcm_interval.specs.declared.interval.Interval.{Interval}
-use Rattle.pcm_interval.specs.declared.mask.Mask.{Mask}
-use Rattle.pcm_interval.specs.Intervals.{IsEmpty, IsNonEmpty, refinement}
-use Rattle.pcm_interval.specs.IntervalLaws.{IsIntervalWithin-trans, IsIntervalWithin-from_same}
-use Rattle.pcm_interval.specs.Masks.{IsMaskWithin, HasNumber, common_mask}
-use Rattle.pcm_interval.specs.MaskLaws.{IsMaskWithin-trans, IsMaskWithin-from_same}
-use Rattle.hw_space.specs.declared.param_box.ParamBox.{ParamBox}
-use Rattle.hw_space.specs.declared.quantity.Quantity.TheVariants.{SampleBits}
 use Rattle.hw_space.specs.declared.rule.Operation.{Operation}
-use Rattle.hw_space.specs.declared.rule.Operation.TheVariants.{Mul, Div, MulDivK, MulKDiv}
-use Rattle.hw_space.specs.declared.rule.Rule.{Rule}
-use Rattle.hw_space.specs.Boxes.{part, IsBoxWithin}
-use Rattle.hw_space.specs.Formats.{bits_of_formats, formats_of_bits}
-use Rattle.hw_space.specs.FormatLaws.{bits_of_formats-IsIntervalWithin, bits_of_formats-IsMember, formats_of_bits-IsMaskWithin, formats_of_bits-HasNumber}
-use Rattle.hw_space.specs.Rules.{rules, no_rule, IsListed, HasScale}
-use Rattle.hw_space.specs.Settled.{IsSettled, Configuration, IsExact, LiesInBox, IsResult, KeepsBox, result_of_rule, IsVoid}
-use Rattle.hw_space.specs.SettledLaws.{computed-IsIntervalWithin}
 use Rattle.hw_space.specs.ConfigurationLaws.{computed-IsMember}
-use Rattle.hw_space.specs.Proper.{IsProper}
-use Rattle.hw_space.specs.Narrowings.{with_refined}
-use Rattle.hw_space.specs.Steps.{IsBoxStep}
+use Rattle.hw_space.specs.FormatLaws.{bits_of_formats-IsIntervalWithin, bits_of_formats-IsMember, formats_of_bits-IsMaskWithin, formats_of_bits-HasNumber}
+use Rattle.hw_space.specs.Formats.{bits_of_formats, formats_of_bits}
 use Rattle.hw_space.proofs.StepLaws.{IsBoxStep-trans, either_false, IsMissedByNone, with_part-IsBoxStep, IsVoid-part, IsFormatMissedByNone, with_formats, with_formats-IsBoxStep, IsVoid-format}
 
 -- ---- the table

@@ -1,21 +1,13 @@
 -- Laws of steps: they compose, and each refinement that no settled box and no configuration can miss is one.
-use Rattle.std.specs.Prelude.{◌≡◌, ◌≢◌, ◌<◌, Bool, IsTrue, true, false, ◌||◌, refl}
-use Rattle.std.proofs.Common.{arith, sym, subst, ap, ◌∙◌}
-use Rattle.pcm_interval.specs.declared.interval.Interval.{Interval}
-use Rattle.pcm_interval.specs.declared.mask.Mask.{Mask}
-use Rattle.pcm_interval.specs.Intervals.{IsEmpty, IsNonEmpty, IsIntervalWithin, IsMember, refinement}
-use Rattle.pcm_interval.specs.IntervalLaws.{IsIntervalWithin-refl, IsIntervalWithin-min, IsIntervalWithin-max, IsNonEmpty-IsIntervalWithin, refined-IsWithin_left, refined-greatest, refined-IsMember, IsNonEmpty-IsMember, size_of-refined}
-use Rattle.pcm_interval.specs.Masks.{IsMaskWithin, HasNumber, common_mask}
-use Rattle.pcm_interval.specs.MaskLaws.{IsMaskWithin-refl, IsMaskWithin-bits, HasNumber-bits, common_mask-IsMaskWithin_left, common_mask-greatest, common_mask-HasNumber, bits-common_mask}
-use Rattle.hw_space.specs.declared.param_box.ParamBox.{ParamBox}
-use Rattle.hw_space.specs.declared.quantity.Quantity.{Quantity}
-use Rattle.hw_space.specs.declared.quantity.Quantity.TheVariants.{SampleBits, FrameBits, Channels, Rate, PeriodTime, PeriodSize, PeriodBytes, Periods, BufferTime, BufferSize, BufferBytes}
-use Rattle.hw_space.specs.Boxes.{part, with_part, IsBoxWithin, size_of_box}
-use Rattle.hw_space.specs.BoxLaws.{with_part-each, access-with_part, format-with_part, with_part-same, size_of_box-with_part, IsBoxWithin-refl, IsBoxWithin-trans, IsBoxWithin-with_part, with_part-IsBoxWithin}
-use Rattle.hw_space.specs.Settled.{IsSettled, Configuration, IsExact, LiesInBox, IsLeft, IsVoid}
-use Rattle.hw_space.specs.SettledLaws.{IsSettled-IsNormal}
-use Rattle.hw_space.specs.Proper.{IsProper}
-use Rattle.hw_space.specs.Steps.{IsBoxStep}
+use Rattle.hw_space.specs.Prelude.{ap, arith, subst, sym, ◌∙◌, Bool, false, IsTrue, refl, true, ◌<◌, ◌||◌, ◌≡◌, ◌≢◌, Interval, Mask, IsIntervalWithin-max}
+use Rattle.hw_space.specs.Prelude.{IsIntervalWithin-min, IsIntervalWithin-refl, IsNonEmpty-IsIntervalWithin, IsNonEmpty-IsMember, refined-greatest}
+use Rattle.hw_space.specs.Prelude.{refined-IsMember, refined-IsWithin_left, size_of-refined, IsEmpty, IsIntervalWithin, IsMember, IsNonEmpty, refinement}
+use Rattle.hw_space.specs.Prelude.{bits-common_mask, common_mask-greatest, common_mask-HasNumber, common_mask-IsMaskWithin_left, HasNumber-bits}
+use Rattle.hw_space.specs.Prelude.{IsMaskWithin-bits, IsMaskWithin-refl, common_mask, HasNumber, IsMaskWithin, ParamBox, Quantity, BufferBytes, BufferSize}
+use Rattle.hw_space.specs.Prelude.{BufferTime, Channels, FrameBits, PeriodBytes, Periods, PeriodSize, PeriodTime, Rate, SampleBits, access-with_part}
+use Rattle.hw_space.specs.Prelude.{format-with_part, IsBoxWithin-refl, IsBoxWithin-trans, IsBoxWithin-with_part, size_of_box-with_part, with_part-each}
+use Rattle.hw_space.specs.Prelude.{with_part-IsBoxWithin, with_part-same, IsBoxWithin, part, size_of_box, with_part, IsProper, Configuration, IsExact, IsLeft}
+use Rattle.hw_space.specs.Prelude.{IsSettled, IsVoid, LiesInBox, IsSettled-IsNormal, IsBoxStep}
 
 -- ---- steps compose
 

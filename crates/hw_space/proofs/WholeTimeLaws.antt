@@ -1,28 +1,15 @@
 -- Laws of whole times: no settled box and no configuration is missed by the sizes whose time is whole.
-use Rattle.std.specs.Prelude.{◌≡◌, ◌↔◌, ℕ, ◌+◌, ◌*◌, ◌/◌, ◌%◌, ◌<◌, ◌≤◌, Bool, true, false, not, ◌&&◌, ◌||◌, nat_le, IsTrue, refl}
-use Rattle.std.proofs.Common.{arith, subst, sym, ap, ◌∙◌, inl, inr, lit<}
-use Rattle.std.proofs.lemmas.Bool.{cases_lt}
-use Rattle.std.proofs.lemmas.Bool.Decides.{nat_tests}
+use Rattle.hw_space.specs.Prelude.{ap, arith, inl, inr, lit<, subst, sym, ◌∙◌, nat_tests, Bool, false, IsTrue, nat_le, not, refl, true, ℕ, ◌%◌, ◌&&◌, ◌*◌, ◌+◌}
+use Rattle.hw_space.specs.Prelude.{◌/◌, ◌<◌, ◌||◌, ◌↔◌, ◌≡◌, ◌≤◌, Interval, IsIntervalWithin-from_same, IsIntervalWithin-max, IsIntervalWithin-min}
+use Rattle.hw_space.specs.Prelude.{IsNonEmpty-le, IsEmpty, IsIntervalWithin, IsLowerWithin, IsNonEmpty, IsNormal, IsUpperWithin, refinement, ParamBox, Quantity}
+use Rattle.hw_space.specs.Prelude.{BufferSize, BufferTime, PeriodSize, PeriodTime, Rate, MulKDiv, IsBoxWithin, part, with_refined, IsProper, no_rule}
+use Rattle.hw_space.specs.Prelude.{Configuration, IsExact, IsResult, IsSettled, IsVoid, LiesInBox, IsSettled-IsNormal, IsSettled-max, IsBoxStep, HasNoneFrom}
+use Rattle.hw_space.specs.Prelude.{HasWholeTime, size_of_span, time_of_span, whole_from_to}
 use Rattle.std.proofs.Math.Nat.{mul-le-mul_right, lt-div-mul-add, div-mul-le_self, mul-mod_left, eq_of_mul-eq-mul_right, le_of_mul-le-mul_right, mul-pos}
-use Rattle.pcm_interval.specs.declared.interval.Interval.{Interval}
-use Rattle.pcm_interval.specs.Intervals.{refinement, IsEmpty, IsNonEmpty, IsIntervalWithin, IsLowerWithin, IsUpperWithin, IsNormal}
-use Rattle.pcm_interval.specs.IntervalLaws.{IsIntervalWithin-min, IsIntervalWithin-max, IsIntervalWithin-from_same, IsNonEmpty-le}
+use Rattle.std.proofs.lemmas.Bool.{cases_lt}
 use Rattle.pcm_interval.specs.Arithmetic.{end_max, interval_between, is_broken, rounded_up, scaled_product_of, scaled_quotient_of}
-use Rattle.hw_space.specs.declared.param_box.ParamBox.{ParamBox}
-use Rattle.hw_space.specs.declared.quantity.Quantity.{Quantity}
-use Rattle.hw_space.specs.declared.quantity.Quantity.TheVariants.{Rate, PeriodTime, PeriodSize, BufferTime, BufferSize}
-use Rattle.hw_space.specs.declared.rule.Operation.TheVariants.{MulKDiv}
 use Rattle.hw_space.specs.declared.whole_time.Span.{Span}
 use Rattle.hw_space.specs.declared.whole_time.Span.TheVariants.{Period, Buffer}
-use Rattle.hw_space.specs.Boxes.{part, IsBoxWithin}
-use Rattle.hw_space.specs.Narrowings.{with_refined}
-use Rattle.hw_space.specs.Proper.{IsProper}
-use Rattle.hw_space.specs.Rules.{no_rule}
-use Rattle.hw_space.specs.Settled.{IsSettled, Configuration, IsExact, LiesInBox, IsResult, IsVoid}
-use Rattle.hw_space.specs.SettledLaws.{IsSettled-IsNormal, IsSettled-max}
-use Rattle.hw_space.specs.Steps.{IsBoxStep}
-use Rattle.hw_space.specs.WholeTimes.{HasWholeTime, HasNoneFrom, size_of_span, time_of_span}
-use Rattle.hw_space.specs.Widest.{whole_from_to}
 use Rattle.hw_space.proofs.StepLaws.{IsMissedByNone, with_part-IsBoxStep, IsVoid-part}
 
 -- ---- closed ends within rounded ones

@@ -7,6 +7,7 @@ pub mod Formats
 pub mod FormatLaws
 pub mod Narrowings
 pub mod Params
+pub mod Prelude
 pub mod Proper
 pub mod Rules
 pub mod Settled

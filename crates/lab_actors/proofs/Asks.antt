@@ -1,14 +1,13 @@
 -- One ask of a gate that counts down.
-use Rattle.std.proofs.Common.{◌≡◌, ℕ, ◌+◌, List, [], ◌∷◌, refl, sym, ◌∙◌, ap, subst, arith, inl, inr}
+use Rattle.lab_actors.specs.Prelude.{ap, arith, inl, inr, List, refl, subst, sym, ℕ, [], ◌+◌, ◌∙◌, ◌∷◌, ◌≡◌, Bool, false, None, Option, Some, true, ◌-◌, AtPort}
+use Rattle.lab_actors.specs.Prelude.{left_after, lets_pass, with_asks, with_gate_stop, with_stop, with_stop_by}
 use Rattle.std.proofs.lemmas.Bool.Decides.{nat_tests}
-use Rattle.std.specs.Prelude.{◌-◌, Bool, true, false, Option, Some, None}
 use Rattle.mix_core.specs.declared.gate.Pass.{Pass}
 use Rattle.mix_core.specs.declared.gate.Pass.TheVariants.{Go, Stop}
 use Rattle.mix_core.specs.declared.gate.StepKind.{StepKind}
 use Rattle.mix_core.specs.declared.gate.StepKind.TheVariants.{Again, Exchange, Look, Position}
 use Rattle.mix_core.specs.Gate.{AsksCompose, stops_after}
 use Rattle.lab_run.specs.PortSteps.{IsAnswered, ask_count, kind_count, stop_at}
-use Rattle.lab_run.specs.Rules.{AtPort, left_after, lets_pass, with_asks, with_gate_stop, with_stop, with_stop_by}
 use Rattle.lab_actors.specs.declared.countdown.Countdown.{Countdown}
 use Rattle.lab_actors.specs.Countdown.{CameOn, CountsAsks, IsSameGate, PassesOn, at_gate_of, by_gate_of, left_of}
 

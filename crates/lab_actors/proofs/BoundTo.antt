@@ -1,11 +1,8 @@
 -- What the bindings of a line are bound to.
-use Rattle.std.proofs.Common.{◌≡◌, ℕ, zero, suc, ◌<◌, ◌≤◌, ◌+◌, List, ◌∙◌, arith, get_or}
-use Rattle.std.proofs.lemmas.List.FromFn.{length-range_with_len}
-use Rattle.std.specs.Prelude.{All, Option, Some, None, unwrap_or}
+use Rattle.lab_actors.specs.Prelude.{arith, get_or, List, suc, zero, ℕ, ◌+◌, ◌<◌, ◌∙◌, ◌≡◌, ◌≤◌, length-range_with_len, All, None, Option, Some, unwrap_or}
+use Rattle.lab_actors.specs.Prelude.{identity, IsBoundWhere}
 use Rattle.std.specs.List.{range_with_len}
 use Rattle.bindings.specs.AnswerLaws.{All-below-answered}
-use Rattle.bindings.specs.Bound.{identity}
-use Rattle.lab_lines.specs.Limits.{IsBoundWhere}
 
 get_or-range : (a n k d : ℕ) → k < n → get_or (range_with_len a n) k d ≡ a + k
 get_or-range a zero k d within = absurd (omega arith)

@@ -1,29 +1,22 @@
 -- What is chosen is within what the card gives to its clients.
-use Rattle.std.proofs.Common.{◌≡◌, ℕ, ◌/◌, refl, sym, ap, subst, arith, List, [], ◌∷◌}
-use Rattle.std.specs.Prelude.{Bool, true, false, if◌then◌else◌, Option, Some, None, Result, Ok, Err, IfOk}
-use Rattle.pcm_interval.specs.declared.empty.Empty.{Empty}
+use Rattle.lab_actors.specs.Prelude.{ap, arith, List, refl, subst, sym, ℕ, [], ◌/◌, ◌∷◌, ◌≡◌, Bool, Err, false, IfOk, if◌then◌else◌, None, Ok, Option, Result}
+use Rattle.lab_actors.specs.Prelude.{Some, true, Empty, Config, ParamBox, ChoiceLeaves, choices, Chooses, done, goes, IsChoice, at_least, at_most, greatest_end}
+use Rattle.lab_actors.specs.Prelude.{least_end, LeavesOf, nearest, point, with_access, with_format, with_kind_value, with_refined, with_value, Leaves}
+use Rattle.lab_actors.specs.Prelude.{whole_from_to, widest, IsNarrowed, Values, IsConfigInRange}
 use Rattle.pcm_interval.specs.declared.interval.Interval.{Interval}
 use Rattle.pcm_interval.specs.IntervalLaws.{IsIntervalWithin-max, IsIntervalWithin-min, IsIntervalWithin-trans, refined-IsWithin_left, refined-IsWithin_right}
 use Rattle.pcm_interval.specs.Intervals.{IsIntervalWithin, refinement}
 use Rattle.pcm_interval.specs.MaskLaws.{common_mask-IsMaskWithin_left}
 use Rattle.hw_space.specs.declared.choice.Choice.{Choice}
 use Rattle.hw_space.specs.declared.choice.Choice.TheVariants.{Settle, FirstAccess, FirstFormat, First, Last, Near}
-use Rattle.hw_space.specs.declared.config.Config.{Config}
-use Rattle.hw_space.specs.declared.param.Param.TheVariants as param
 use Rattle.hw_space.specs.declared.param.ParamKind.{ParamKind}
-use Rattle.hw_space.specs.declared.param.ParamKind.TheVariants as kind
-use Rattle.hw_space.specs.declared.param_box.ParamBox.{ParamBox}
 use Rattle.hw_space.specs.declared.quantity.Quantity.{Quantity}
-use Rattle.hw_space.specs.declared.quantity.Quantity.TheVariants as quantity
-use Rattle.hw_space.specs.Boxes.{IsBoxWithin, part}
 use Rattle.hw_space.specs.BoxLaws.{IsBoxWithin-part, IsBoxWithin-refl, IsBoxWithin-trans, with_part-IsBoxWithin}
-use Rattle.hw_space.specs.Choices.{Chooses, IsChoice, ChoiceLeaves, choices, done, goes}
-use Rattle.hw_space.specs.Narrowings.{LeavesOf, at_least, at_most, greatest_end, least_end, with_refined, nearest, point, with_access, with_format, with_kind_value, with_value}
+use Rattle.hw_space.specs.Boxes.{IsBoxWithin, part}
 use Rattle.hw_space.specs.Params.{kind_of}
-use Rattle.hw_space.specs.Settled.{Leaves}
-use Rattle.hw_space.specs.Widest.{whole_from_to, widest}
-use Rattle.lab_run.specs.Openings.{IsNarrowed, Values}
-use Rattle.lab_actors.specs.Usable.{IsConfigInRange}
+use Rattle.hw_space.specs.declared.param.Param.TheVariants as param
+use Rattle.hw_space.specs.declared.param.ParamKind.TheVariants as kind
+use Rattle.hw_space.specs.declared.quantity.Quantity.TheVariants as quantity
 
 -- a narrowed space is within the space
 narrowed-IsBoxWithin : (b : ParamBox) (q : Quantity) (i : Interval) → IsBoxWithin (with_refined b q i) b

@@ -1,11 +1,6 @@
 -- How many lines of a phase's are an actor's.
-use mir.Val.{bool_byte}
-use Rattle.std.proofs.Common.{◌≡◌, ℕ, ◌+◌, ◌<◌, ◌≤◌, List, sym, ap, arith, length, get_or, take}
-use Rattle.std.specs.Prelude.{Bool, true, false}
-use Rattle.lab_lines.specs.declared.line.Actor.{Actor}
-use Rattle.lab_lines.specs.declared.line.Line.{Line}
-use Rattle.lab_run.specs.Phases.{ops_by}
-use Rattle.lab_actors.specs.LineLaws.{other-line, own-size}
+use Rattle.lab_actors.specs.Prelude.{ap, arith, get_or, length, List, sym, take, ℕ, ◌+◌, ◌<◌, ◌≡◌, ◌≤◌, Bool, false, true, bool_byte, Actor, Line, ops_by}
+use Rattle.lab_actors.specs.Prelude.{other-line, own-size}
 
 -- how many lines of an actor's there are up to the next one
 pub counted-next : (mine : Actor → Bool) (lines : List Line) (k : ℕ) (line : Line) → k < length lines → get_or lines k line ≡ line → (test : Bool) → test ≡ mine line.actor

@@ -1,17 +1,8 @@
 -- Laws of narrowings: values narrow one after the other, and what they leave is one space, or nothing.
-use Rattle.std.specs.Prelude.{◌≡◌, ℕ, [], ◌∷◌, ◌++◌, Option, Some, None, Result, Ok, Err, refl}
-use Rattle.std.proofs.Common.{subst, ◌∙◌, sym, inl, inr}
-use Rattle.pcm_interval.specs.declared.empty.Empty.{Empty}
-use Rattle.hw_space.specs.declared.config.Config.{Config}
+use Rattle.lab_actors.specs.Prelude.{inl, inr, refl, subst, sym, ℕ, [], ◌++◌, ◌∙◌, ◌∷◌, ◌≡◌, Err, None, Ok, Option, Result, Some, Empty, Config, ParamBox}
+use Rattle.lab_actors.specs.Prelude.{IsChoice, with_value, Leaves, space_left, widest, CardLine, IsChosen, IsNarrowed, Values}
 use Rattle.hw_space.specs.declared.param.Param.{Param}
-use Rattle.hw_space.specs.declared.param_box.ParamBox.{ParamBox}
 use Rattle.hw_space.specs.ChoiceLaws.{IsChoice-unique, Leaves-unique}
-use Rattle.hw_space.specs.Choices.{IsChoice}
-use Rattle.hw_space.specs.Narrowings.{with_value}
-use Rattle.hw_space.specs.Settled.{Leaves, space_left}
-use Rattle.hw_space.specs.Widest.{widest}
-use Rattle.lab_lines.specs.declared.script.CardLine.{CardLine}
-use Rattle.lab_run.specs.Openings.{IsChosen, IsNarrowed, Values}
 
 -- a value leaves nothing, or the others narrow what it leaves
 pub IsNarrowed-fails : (b : ParamBox) (p : Param) (v : ℕ) (more : Values) → Leaves (with_value b p v) None → IsNarrowed b ((p, v) ∷ more) None

@@ -1,13 +1,6 @@
 -- The openings of lists of lines: one more line has one opening more.
-use Rattle.std.proofs.Common.{◌≡◌, ℕ, ◌+◌, ◌<◌, sym, subst, List, [], ◌∷◌, ◌++◌, length, take, get_or}
-use Rattle.std.proofs.lemmas.List.{take_more}
-use Rattle.std.specs.Prelude.{Option}
-use Rattle.wav_io.specs.Sound.{Sound}
-use Rattle.lab_lines.specs.declared.script.CardLine.{CardLine}
-use Rattle.lab_lines.specs.declared.script.ClientLine.{ClientLine}
-use Rattle.lab_lines.specs.declared.script.ReaderLine.{ReaderLine}
-use Rattle.lab_run.specs.Openings.{AreClientOpenings, AreReaderOpenings, IsClientOpening, IsReaderOpening}
-use Rattle.lab_run.specs.Stage.{Setup}
+use Rattle.lab_actors.specs.Prelude.{get_or, length, List, subst, sym, take, ℕ, [], ◌++◌, ◌+◌, ◌<◌, ◌∷◌, ◌≡◌, take_more, Option, Sound, CardLine, ClientLine}
+use Rattle.lab_actors.specs.Prelude.{ReaderLine, AreClientOpenings, AreReaderOpenings, IsClientOpening, IsReaderOpening, Setup}
 
 AreClientOpenings-push : (card : CardLine) (lines : List ClientLine) (wavs : List Sound) (setups : List (Option Setup)) (line : ClientLine) (wav : Sound) (setup : Option Setup)
     → AreClientOpenings card lines wavs setups → IsClientOpening card line wav setup

@@ -1,11 +1,10 @@
 -- Pairs of two lists that are split in two: what holds of both parts holds of the whole.
-use Rattle.std.specs.Prelude.{◌≡◌, ℕ, ◌+◌, ◌-◌, ◌<◌, ◌≤◌, List, ◌++◌, length, slice_index_or, slice_set}
+use Rattle.lab_actors.specs.Prelude.{ap, arith, inl, inr, length, List, refl, subst, sym, ℕ, ◌++◌, ◌+◌, ◌<◌, ◌∙◌, ◌≡◌, ◌≤◌, get_or-append-add, get_or-set_other}
+use Rattle.lab_actors.specs.Prelude.{get_or-set_same, get_or_append_left, get_or_default, length-append, length-set, slice_index_or, slice_set, ◌-◌, AreChanged}
+use Rattle.lab_actors.specs.Prelude.{ChangesFrom, ChangesPair, ChangesPairs, IsReadyFrom}
+use Rattle.std.proofs.lemmas.Bool.{cases_lt}
 use Rattle.std.specs.Borrow.{MutBor}
 use denote.Param.Members.{Shared}
-use Rattle.std.proofs.Common.{refl, sym, ◌∙◌, ap, subst, arith, inl, inr}
-use Rattle.std.proofs.lemmas.Bool.{cases_lt}
-use Rattle.std.proofs.lemmas.List.{get_or-append-add, get_or-set_other, get_or-set_same, get_or_append_left, get_or_default, length-append, length-set}
-use Rattle.lab_actors.specs.Pairs.{AreChanged, ChangesFrom, ChangesPair, ChangesPairs, IsReadyFrom}
 
 -- one pair became another
 pub AreChanged-one : {S G : Type 0} (R : ℕ → S → G → S → G → Type 0) (xs : List S) (gs : List G) (y : S) (h : G) → length xs ≡ 1 → 0 < length gs

@@ -1,15 +1,10 @@
 -- The software parameters of a line: there is one value of them, and it is valid.
-use Rattle.std.proofs.Common.{◌≡◌, ℕ, ◌≤◌, ◌∙◌, arith, sym}
-use Rattle.std.specs.Prelude.{Option, Some, None}
-use Rattle.hw_space.specs.declared.config.Config.{Config}
+use Rattle.lab_actors.specs.Prelude.{arith, sym, ℕ, ◌∙◌, ◌≡◌, ◌≤◌, None, Option, Some, Config, Stop, IsIn, IsStopWhere, AreParams, IsStop}
 use Rattle.sw_limits.specs.declared.params.SwParams.{SwParams}
 use Rattle.sw_limits.specs.Boundary.{IsBoundary}
 use Rattle.sw_limits.specs.BoundaryLaws.{IsBoundary-last, IsBoundary-unique}
 use Rattle.sw_limits.specs.Params.{IsInRange, IsValid}
-use Rattle.lab_lines.specs.declared.script.Stop.{Stop}
 use Rattle.lab_lines.specs.declared.script.Stop.TheVariants.{At, Never}
-use Rattle.lab_lines.specs.Limits.{IsIn, IsStopWhere}
-use Rattle.lab_run.specs.Openings.{AreParams, IsStop}
 
 IsStop-unique : (config : Config) (o : Option Stop) (a b : ℕ) → IsStop config o a → IsStop config o b → a ≡ b
 IsStop-unique config None a b one other = one ∙ sym other

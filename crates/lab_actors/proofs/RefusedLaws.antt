@@ -1,27 +1,19 @@
 -- The rows of an actor that isn't open are its part of a run.
-use Rattle.std.proofs.Common.{◌≡◌, ℕ, ◌+◌, ◌<◌, List, [], ◌∷◌, ◌++◌, refl, sym, ◌∙◌, ap, append_assoc, get_or, length, take}
-use Rattle.std.proofs.lemmas.List.{map-append}
-use Rattle.std.specs.Prelude.{Bool, true, None, Option}
+use Rattle.lab_actors.specs.Prelude.{ap, append_assoc, get_or, length, List, refl, sym, take, ℕ, [], ◌++◌, ◌+◌, ◌<◌, ◌∙◌, ◌∷◌, ◌≡◌, map-append, Bool, None}
+use Rattle.lab_actors.specs.Prelude.{Option, true, Sound, Actor, Line, ops_by, AtPort, own-line, AreRefused, refused_row, refused_rows}
 use Rattle.snd_base.specs.declared.errors.PcmError.TheVariants.{BadState}
 use Rattle.snd_base.specs.declared.geometry.Geometry.{Geometry}
-use Rattle.wav_io.specs.Sound.{Sound}
 use Rattle.dmix_client.specs.declared.stream.PlaybackStream.{PlaybackStream}
-use Rattle.dsnoop_client.specs.declared.stream.CaptureStream as reading
-use Rattle.lab_lines.specs.declared.line.Actor.{Actor}
-use Rattle.lab_lines.specs.declared.line.Actor.TheVariants as actor
-use Rattle.lab_lines.specs.declared.line.Line.{Line}
 use Rattle.lab_lines.specs.declared.line.Op.{Op}
 use Rattle.lab_lines.specs.declared.row.Answer.TheVariants.{Failed}
 use Rattle.lab_lines.specs.declared.row.Row.{Row}
 use Rattle.lab_run.specs.ActorPart.{ActorPart, Findings}
-use Rattle.lab_run.specs.Client as clients
 use Rattle.lab_run.specs.ClientAtPort.{ClientLinesWithoutCall}
-use Rattle.lab_run.specs.Phases.{ops_by}
-use Rattle.lab_run.specs.Reader as readers
 use Rattle.lab_run.specs.ReaderAtPort.{ReaderLinesWithoutCall}
-use Rattle.lab_run.specs.Rules.{AtPort}
-use Rattle.lab_actors.specs.Refused.{AreRefused, refused_row, refused_rows}
-use Rattle.lab_actors.specs.LineLaws.{own-line}
+use Rattle.dsnoop_client.specs.declared.stream.CaptureStream as reading
+use Rattle.lab_lines.specs.declared.line.Actor.TheVariants as actor
+use Rattle.lab_run.specs.Client as clients
+use Rattle.lab_run.specs.Reader as readers
 
 client-refused : (ring : Geometry) (phase : ℕ) (wav : Sound) (number : ℕ) → ClientLinesWithoutCall ring phase wav number → (a : AtPort) (found : Findings) (client : clients.Client)
     → client.own ≡ None → (ops : List Op)

@@ -1,14 +1,7 @@
 -- With what an actor is opened is settled by the card, its line and its file.
-use Rattle.std.proofs.Common.{◌≡◌, ◌∙◌, refl, sym, ap, subst, inl, inr, length}
-use Rattle.std.specs.Prelude.{Option, Some, None, Ok, Err}
-use Rattle.pcm_interval.specs.declared.empty.Empty.{Empty}
-use Rattle.hw_space.specs.declared.config.Config.{Config}
-use Rattle.wav_io.specs.Sound.{Sound}
-use Rattle.lab_lines.specs.declared.script.CardLine.{CardLine}
-use Rattle.lab_lines.specs.declared.script.ClientLine.{ClientLine}
-use Rattle.lab_lines.specs.declared.script.ReaderLine.{ReaderLine}
-use Rattle.lab_run.specs.Openings.{AreParams, IsChosen, IsClientOpening, IsClientSetup, IsReaderOpening, IsReaderSetup, Values, client_values, reader_values}
-use Rattle.lab_run.specs.Stage.{Setup}
+use Rattle.lab_actors.specs.Prelude.{ap, inl, inr, length, refl, subst, sym, ◌∙◌, ◌≡◌, Err, None, Ok, Option, Some, Empty, Config, Sound, CardLine, ClientLine}
+use Rattle.lab_actors.specs.Prelude.{ReaderLine, AreParams, client_values, IsChosen, IsClientOpening, IsClientSetup, IsReaderOpening, IsReaderSetup}
+use Rattle.lab_actors.specs.Prelude.{reader_values, Values, Setup}
 use Rattle.lab_actors.proofs.Narrowings.{IsChosen-unique}
 use Rattle.lab_actors.proofs.ParamLaws.{AreParams-unique}
 

@@ -1,17 +1,7 @@
 -- What an opening is: with the values of a file, and fit for the card.
-use Rattle.std.proofs.Common.{◌≡◌, ℕ, ◌<◌, ◌≤◌, sym, subst, arith, List, length}
-use Rattle.std.specs.Prelude.{All, Option, Result, unwrap_or}
-use Rattle.bindings.specs.Bound.{identity}
-use Rattle.pcm_interval.specs.declared.empty.Empty.{Empty}
-use Rattle.hw_space.specs.declared.config.Config.{Config}
-use Rattle.wav_io.specs.Sound.{Sound}
-use Rattle.lab_lines.specs.declared.script.CardLine.{CardLine}
-use Rattle.lab_lines.specs.declared.script.ClientLine.{ClientLine}
-use Rattle.lab_lines.specs.declared.script.Stop.{Stop}
-use Rattle.lab_lines.specs.Limits.{IsBoundWhere, IsCardLine, IsIn, IsStopWhere}
-use Rattle.lab_run.specs.Openings.{AreParams, IsChosen, client_values, values_of}
-use Rattle.lab_run.specs.Stage.{Setup}
-use Rattle.lab_actors.specs.Usable.{IsConfigInRange, IsUsable}
+use Rattle.lab_actors.specs.Prelude.{arith, length, List, subst, sym, ℕ, ◌<◌, ◌≡◌, ◌≤◌, All, Option, Result, unwrap_or, identity, Empty, Config, Sound}
+use Rattle.lab_actors.specs.Prelude.{CardLine, ClientLine, Stop, IsBoundWhere, IsCardLine, IsIn, IsStopWhere, AreParams, client_values, IsChosen, values_of}
+use Rattle.lab_actors.specs.Prelude.{Setup, IsConfigInRange, IsUsable}
 use Rattle.lab_actors.proofs.BoundTo.{bound-below}
 use Rattle.lab_actors.proofs.ParamLaws.{AreParams-IsValid}
 

@@ -7,6 +7,7 @@ pub mod Gates
 pub mod LineLaws
 pub mod Lines
 pub mod Pairs
+pub mod Prelude
 pub mod Raised
 pub mod Refused
 pub mod Room

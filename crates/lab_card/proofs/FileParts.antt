@@ -1,12 +1,9 @@
 -- What a card captures of a file that has its channels: a part of the file's samples, and silence behind it.
-use Rattle.std.specs.Prelude.{◌≡◌, ℕ, zero, suc, ◌+◌, ◌-◌, ◌*◌, ◌<◌, ℤ, pos, nat_lt, Bool, true, if◌then◌else◌, List, [], ◌∷◌, ◌++◌, Option, Some, drop, length, min, replicate, take}
-use Rattle.std.proofs.Common.{refl, sym, ap, ◌∙◌, arith, get_or, inl, inr}
-use Rattle.std.proofs.lemmas.Bool.{cases_lt}
+use Rattle.lab_card.specs.Prelude.{ap, arith, drop, get_or, inl, inr, length, List, refl, Some, sym, take, ℕ, ℤ, [], ◌*◌, ◌++◌, ◌+◌, ◌-◌, ◌<◌, ◌∙◌, ◌≡◌}
+use Rattle.lab_card.specs.Prelude.{cases_lt, drop_min, ext_get_or, get_or-append_right, get_or-drop, get_or-take, get_or_append_left, length-append}
+use Rattle.lab_card.specs.Prelude.{length-drop, length-replicate, take_min, get_or-map-range_with_len, length-map-range_with_len, Bool, if◌then◌else◌, min}
+use Rattle.lab_card.specs.Prelude.{nat_lt, Option, pos, replicate, suc, true, zero, ◌∷◌, Sound, captured_at, captured_frame, captured_frames, sample_in}
 use Rattle.std.proofs.lemmas.Bool.Decides.{nat_tests}
-use Rattle.std.proofs.lemmas.List.{drop_min, ext_get_or, get_or-append_right, get_or-drop, get_or-take, get_or_append_left, length-append, length-drop, length-replicate, take_min}
-use Rattle.std.proofs.lemmas.List.FromFn.{get_or-map-range_with_len, length-map-range_with_len}
-use Rattle.wav_io.specs.Sound.{Sound}
-use Rattle.lab_card.specs.Captures.{captured_at, captured_frame, captured_frames, sample_in}
 
 -- a part of a list, of which there is less maybe
 pub part-taken : (xs : List ℤ) (start count first size : ℕ) → first ≡ min start (length xs) → size ≡ min count (length xs - first)

@@ -1,23 +1,17 @@
 -- A client's note, heard by the card's player.
-use Rattle.std.proofs.Common.{◌≡◌, ◌≤◌, ℕ, Some, None, ap, subst, sym, ◌∙◌}
-use Rattle.std.specs.List.{slice_index_or}
-use mathlib.Core.Option.{some}
+use Rattle.lab_card.specs.Prelude.{ap, None, Some, subst, sym, ℕ, ◌∙◌, ◌≡◌, ◌≤◌, slice_index_or, Cursor, lap, PlayerSeat, Track, View, next_of_player}
+use Rattle.lab_card.specs.Prelude.{player_geometry, player_key, track_of}
 use lib.ListN.{get_elem?}
-use Rattle.snd_base.specs.declared.places.Cursor.{Cursor}
-use Rattle.snd_base.specs.Places.{lap}
+use mathlib.Core.Option.{some}
 use Rattle.lap_word.specs.Word.{lap_of}
-use Rattle.ring_rule.specs.Words.{index_of}
 use Rattle.mix_core.specs.Sound.{IsNow}
+use Rattle.ring_rule.specs.Words.{index_of}
 use Rattle.sum_table.specs.declared.seats.mix.MixSeat.{MixSeat}
 use Rattle.sum_table.specs.declared.seats.note.SeatNote.{SeatNote}
-use Rattle.sum_table.specs.declared.seats.player.PlayerSeat.{PlayerSeat}
 use Rattle.sum_table.specs.declared.view.Key.{Key}
-use Rattle.sum_table.specs.declared.view.Track.{Track}
-use Rattle.sum_table.specs.declared.view.View.{View}
 use Rattle.sum_table.specs.Cuts.{part_of}
 use Rattle.sum_table.specs.Exact.{IsPublishedPosition, next_at}
 use Rattle.sum_table.specs.Joins.{HasHeard, HasNote, note_view}
-use Rattle.sum_table.specs.Players.{next_of_player, player_geometry, player_key, track_of}
 use Rattle.sum_table.specs.Seats.{key_of, noted_word, view_of}
 
 -- a note has seen what its seat has

@@ -1,6 +1,5 @@
 -- A reader's note, heard by the card's writer.
-use Rattle.std.proofs.Common.{sym, subst}
-use Rattle.snd_base.specs.declared.geometry.Geometry.{Geometry}
+use Rattle.lab_card.specs.Prelude.{subst, sym, Geometry, desk_track}
 use Rattle.snoop_table.specs.declared.seats.desk.Desk.{Desk}
 use Rattle.snoop_table.specs.declared.seats.reader.ReaderSeat.{ReaderSeat}
 use Rattle.snoop_table.specs.declared.view.Track.{Track}
@@ -8,7 +7,6 @@ use Rattle.snoop_table.specs.declared.view.View.{View}
 use Rattle.snoop_table.specs.Cuts.{part_of}
 use Rattle.snoop_table.specs.Joins.{DeskHeard, HasSplit, IsBorneOut}
 use Rattle.snoop_table.specs.Readers.{view_of}
-use Rattle.snoop_table.specs.Writers.{desk_track}
 
 -- a note says as much as its seat
 borne-part : (g : Geometry) (t : Track) (v : View) → IsBorneOut g t (part_of v) → IsBorneOut g t v

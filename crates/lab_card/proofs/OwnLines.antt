@@ -1,15 +1,9 @@
 -- The card's lines among those of a phase, one after the other.
-use Rattle.std.proofs.Common.{◌≡◌, ℕ, suc, ◌+◌, ◌<◌, ◌≤◌, List, [], ◌∷◌, ◌++◌, refl, sym, ◌∙◌, ap, arith, append_assoc, length, get_or, take, drop}
-use Rattle.std.proofs.Math.Seq.{take-suc}
-use Rattle.std.proofs.lemmas.List.{length-append, take-append-drop}
+use Rattle.lab_card.specs.Prelude.{ap, append_assoc, arith, drop, get_or, length, List, refl, sym, take, ℕ, [], ◌++◌, ◌+◌, ◌<◌, ◌∙◌, ◌≡◌, ◌≤◌, take-suc}
+use Rattle.lab_card.specs.Prelude.{length-append, take-append-drop, Bool, false, if◌then◌else◌, suc, true, ◌∷◌, Line, Op, is_of_card, played_by, ops_by}
+use Rattle.lab_card.specs.Prelude.{frames_by}
 use Rattle.std.proofs.lemmas.List.Sums.{sum_by-append}
 use mir.Val.{bool_byte}
-use Rattle.std.specs.Prelude.{Bool, true, false, if◌then◌else◌}
-use Rattle.lab_lines.specs.declared.line.Line.{Line}
-use Rattle.lab_lines.specs.declared.line.Op.{Op}
-use Rattle.lab_lines.specs.Script.{is_of_card, played_by}
-use Rattle.lab_run.specs.Phases.{ops_by}
-use Rattle.lab_card.specs.CardLines.{frames_by}
 
 -- what the card is asked for by some lines
 abbrev pub ops : List Line → List Op

@@ -1,11 +1,6 @@
 -- The room of a card, as it is used.
-use Rattle.std.proofs.Common.{◌≡◌, ℕ, ◌+◌, ◌*◌, ◌≤◌, refl, ap, ◌∙◌, arith}
-use Rattle.std.proofs.Math.Nat.{mul-le-mul_right}
-use Rattle.snd_base.specs.declared.geometry.Geometry.{Geometry}
-use Rattle.card_sim.specs.Runs.{period_of}
-use Rattle.lab_card.specs.declared.card.CardActor.{CardActor}
-use Rattle.lab_card.specs.Moves.{geometry_of_card}
-use Rattle.lab_card.specs.Room.{HasRoom, KeepsRoom}
+use Rattle.lab_card.specs.Prelude.{ap, arith, refl, ℕ, ◌*◌, ◌+◌, ◌∙◌, ◌≡◌, ◌≤◌, mul-le-mul_right, Geometry, period_of, CardActor, geometry_of_card, HasRoom}
+use Rattle.lab_card.specs.Prelude.{KeepsRoom}
 
 pub KeepsRoom-none : (a : CardActor) → KeepsRoom a a 0 0
 KeepsRoom-none a = record {

@@ -1,29 +1,16 @@
 -- One run of a card, as a part of a phase.
-use Rattle.std.proofs.Common.{◌≡◌, ℕ, ◌+◌, ◌-◌, ◌*◌, ◌/◌, ◌%◌, ◌<◌, ◌≤◌, ℤ, List, [], ◌++◌, length, take, drop, refl, sym, ap, subst, ◌∙◌, arith, inl, inr}
-use Rattle.std.specs.Prelude.{true, false, ◌||◌, ◌⊎◌, ◌==◌, min, Option}
-use borrow.Rule.Slice.PartMut.{post_of}
+use Rattle.lab_card.specs.Prelude.{ap, arith, drop, inl, inr, length, List, refl, subst, sym, take, ℕ, ℤ, [], ◌%◌, ◌*◌, ◌++◌, ◌+◌, ◌-◌, ◌/◌, ◌<◌, ◌∙◌, ◌≡◌, ◌≤◌}
+use Rattle.lab_card.specs.Prelude.{add-mul-mod_self_left, div-add-mod, mod-lt, mod_self, mul-div_cancel, mul-mod_left, take-append_seam, append-nil}
+use Rattle.lab_card.specs.Prelude.{length-append, length-drop, take_all, false, min, Option, true, ◌==◌, ◌||◌, ◌⊎◌, post_of, end_frame, PlayerSeat, track_of}
+use Rattle.lab_card.specs.Prelude.{writer_track, first_samples, frames_left, HasPlayed, is_multiple, periods_to, positions_of, seat_of, captured_if}
+use Rattle.lab_card.specs.Prelude.{HasCaptured, period_of, player_of, records_of, RunsFrames, RunsThrough, writer_of, Sound, Op, is_unplug, played_by}
+use Rattle.lab_card.specs.Prelude.{CardActor, captured_frames, CardDid, positions_at, CardMoves, frame_of_card, frames_since_first, geometry_of_card}
+use Rattle.lab_card.specs.Prelude.{PlayerMoves, WriterMoves, CardDid-joined, CardDid-none, or-false}
 use Rattle.std.proofs.Math.ListN.{drop_of_length-le}
-use Rattle.std.proofs.Math.Seq.{take-append_seam}
-use Rattle.std.proofs.lemmas.List.{append-nil, length-append, length-drop, take_all}
-use Rattle.std.proofs.Math.Nat.{add-mul-mod_self_left, div-add-mod, mod-lt, mul-div_cancel, mod_self, mul-mod_left}
-use Rattle.snd_base.specs.Places.{end_frame}
-use Rattle.sum_table.specs.declared.seats.player.PlayerSeat.{PlayerSeat}
-use Rattle.sum_table.specs.Players.{track_of}
 use Rattle.snoop_table.specs.declared.seats.writer.WriterSeat.{WriterSeat}
-use Rattle.snoop_table.specs.Writers.{writer_track}
-use Rattle.wav_io.specs.Sound.{Sound}
-use Rattle.lab_lines.specs.declared.line.Op.{Op}
-use Rattle.lab_lines.specs.declared.line.Op.TheVariants as op
-use Rattle.lab_lines.specs.Script.{is_unplug, played_by}
-use Rattle.card_player.specs.Plays.{HasPlayed, frames_left, is_multiple, periods_to, positions_of, first_samples, seat_of}
 use Rattle.card_sim.specs.declared.card.Card.{Card}
-use Rattle.card_sim.specs.Runs.{HasCaptured, RunsFrames, RunsThrough, captured_if, period_of, player_of, records_of, writer_of}
-use Rattle.lab_card.specs.declared.card.CardActor.{CardActor}
-use Rattle.lab_card.specs.Captures.{captured_frames}
-use Rattle.lab_card.specs.CardLines.{CardDid, positions_at}
-use Rattle.lab_card.specs.MovesLaws.{CardDid-joined, CardDid-none, or-false}
 use Rattle.lab_card.specs.PositionLaws.{periods_to-append, positions_of-append, positions_of-period}
-use Rattle.lab_card.specs.Moves.{CardMoves, PlayerMoves, WriterMoves, frame_of_card, frames_since_first, geometry_of_card}
+use Rattle.lab_lines.specs.declared.line.Op.TheVariants as op
 
 played-moves : (p q : PlayerSeat) (xs : List ℤ) (ps : List ℕ) → HasPlayed p q xs ps → PlayerMoves p q xs ps false
 played-moves p q xs ps played = record {

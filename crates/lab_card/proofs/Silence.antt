@@ -1,9 +1,6 @@
 -- What a card captures where there is no file.
-use Rattle.std.specs.Prelude.{◌≡◌, ℕ, zero, suc, ◌+◌, ◌*◌, ℤ, pos, List, ◌∷◌, ◌++◌, None, map, replicate}
-use Rattle.std.proofs.Common.{refl, ap, ◌∙◌, arith}
-use Rattle.std.specs.List.{range_with_len}
-use Rattle.std.proofs.lemmas.List.{replicate-append-replicate}
-use Rattle.lab_card.specs.Captures.{captured_at, captured_frames}
+use Rattle.lab_card.specs.Prelude.{ap, arith, List, map, None, refl, ℕ, ℤ, ◌*◌, ◌++◌, ◌+◌, ◌∙◌, ◌≡◌, replicate-append-replicate, range_with_len, pos, replicate}
+use Rattle.lab_card.specs.Prelude.{suc, zero, ◌∷◌, captured_at, captured_frames}
 
 -- so many channels of silence
 captured_at-none : (frame from n : ℕ) → map (captured_at None frame) (range_with_len from n) ≡ replicate n (pos 0)

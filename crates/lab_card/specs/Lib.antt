@@ -7,6 +7,7 @@ pub mod Meets
 pub mod Moves
 pub mod MovesLaws
 pub mod PositionLaws
+pub mod Prelude
 pub mod Rests
 pub mod Room
 pub mod Stages

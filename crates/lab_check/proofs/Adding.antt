@@ -1,14 +1,7 @@
 -- A segment is added to the sums of a window of frames.
-use Rattle.std.proofs.Common.{◌≡◌, ℕ, ◌+◌, ◌-◌, ◌*◌, ◌/◌, ◌%◌, ◌<◌, ◌≤◌, ◌⊎◌, inl, inr, refl, sym, ◌∙◌, ap, subst, arith, mul-le-mul, List, [], ◌∷◌, ◌++◌, length}
-use Rattle.std.proofs.lemmas.Bool.Decides.{nat_tests}
-use Rattle.std.proofs.lemmas.List.{append-nil}
-use Rattle.std.proofs.Math.Nat.{div-lt_iff_lt-mul}
-use Rattle.std.specs.List.{flat_map, range_with_len}
-use Rattle.std.specs.Prelude.{ℤ, Bool, false, nat_eq, nat_lt, zero, suc, if◌then◌else◌, map, take, min}
-use Rattle.bindings.specs.Bound.{rising}
-use Rattle.mix_core.specs.declared.port.Entry.{Entry}
-use Rattle.dmix_client.specs.Expansion.{frame_entries, sample_at}
-use Rattle.lab_check.specs.Sums.{IsSummed}
+use Rattle.lab_check.specs.Prelude.{ap, arith, inl, inr, length, List, mul-le-mul, refl, subst, sym, take, ℕ, [], ◌%◌, ◌*◌, ◌++◌, ◌+◌, ◌-◌, ◌/◌, ◌<◌, ◌∙◌, ◌∷◌}
+use Rattle.lab_check.specs.Prelude.{◌≡◌, ◌≤◌, ◌⊎◌, div-lt_iff_lt-mul, nat_tests, append-nil, flat_map, range_with_len, Bool, false, if◌then◌else◌, map, min}
+use Rattle.lab_check.specs.Prelude.{nat_eq, nat_lt, suc, zero, ℤ, rising, Entry, frame_entries, sample_at, IsSummed}
 use Rattle.lab_check.proofs.Covers.{entry_at}
 use Rattle.lab_check.proofs.Summing.{frame_of_segment, of, of-append, outside, summed-both, summed-none, whole_frame, whole-same}
 

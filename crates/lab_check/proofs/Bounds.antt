@@ -1,26 +1,11 @@
 -- No sum of a report's samples passes 64 bits.
-use Rattle.std.proofs.Common.{◌≡◌, ℕ, ◌+◌, ◌*◌, ◌^◌, ◌<◌, ◌≤◌, refl, subst, arith, List, [], ◌∷◌, ◌++◌, length, Option, Some, None, w64, FitsSigned}
-use Rattle.std.proofs.lemmas.Int.{ints}
-use Rattle.std.proofs.lemmas.List.Elements.{recursion_from_All}
-use Rattle.std.specs.List.{AllByRecursion, flat_map, range_with_len}
-use Rattle.std.specs.Prelude.{All, ℤ, pos, negsuc, ◌+ℤ◌, ◌≤ℤ◌, Bool, true, false, zero, suc, if◌then◌else◌, map, filter, slice_get, slice_index, slice_index_or, take, fold}
-use Rattle.bindings.specs.Bound.{rising}
-use Rattle.snd_base.specs.declared.places.Segment.{Segment}
-use Rattle.lap_word.specs.Clamp.{IsSample}
-use Rattle.mix_core.specs.declared.port.Entry.{Entry}
-use Rattle.mix_core.specs.declared.port.Kind.TheVariants.{Added}
-use Rattle.mix_core.specs.HistoryLaws.{fold-from, total-append}
-use Rattle.mix_core.specs.Laid.{at, count, is_at, sum_of_samples, total, value_of}
-use Rattle.wav_io.specs.Sound.{Sound}
-use Rattle.dmix_client.specs.Expansion.{expand, frame_entries, sample_at}
-use Rattle.lab_lines.specs.declared.script.ClientLine.{ClientLine}
-use Rattle.lab_lines.specs.declared.script.Script.{Script}
-use Rattle.lab_run.specs.Openings.{bound_by}
-use Rattle.run_laws.specs.Files.{file_samples}
+use Rattle.lab_check.specs.Prelude.{arith, FitsSigned, length, List, None, Option, refl, Some, subst, take, ℕ, [], ◌*◌, ◌++◌, ◌+◌, ◌<◌, ◌^◌, ◌∷◌, ◌≡◌, ◌≤◌}
+use Rattle.lab_check.specs.Prelude.{ints, recursion_from_All, AllByRecursion, flat_map, range_with_len, All, Bool, false, filter, fold, if◌then◌else◌, map}
+use Rattle.lab_check.specs.Prelude.{negsuc, pos, slice_get, slice_index, slice_index_or, suc, true, zero, ℤ, ◌+ℤ◌, ◌≤ℤ◌, Segment, rising, IsSample, Entry}
+use Rattle.lab_check.specs.Prelude.{Added, fold-from, total-append, at, count, is_at, sum_of_samples, total, value_of, expand, frame_entries, sample_at, Sound}
+use Rattle.lab_check.specs.Prelude.{ClientLine, Script, bound_by, file_samples, AreSamples, entries_of_segment, entries_of_segments}
+use Rattle.std.proofs.Common.{w64}
 use Rattle.run_laws.specs.Once.{PlacesOnce}
-use Rattle.run_laws.specs.OneSample.{AreSamples}
-use Rattle.lab_check.specs.Late.{entries_of_segment}
-use Rattle.lab_check.specs.Sums.{entries_of_segments}
 
 -- a number is from -n to n
 pub record IsAround (n : ℕ) (x : ℤ) : Type 0 where

@@ -1,21 +1,8 @@
 -- What the segments of a report placed sums up to what each client's segments placed.
-use Rattle.std.proofs.Common.{◌≡◌, ℕ, ◌+◌, ◌<◌, ◌≤◌, refl, sym, ◌∙◌, ap, subst, arith, List, [], ◌∷◌, ◌++◌, length, Option}
-use Rattle.std.proofs.lemmas.Bool.{eqb-true, eqb-false}
-use Rattle.std.proofs.lemmas.Bool.Decides.{nat_tests}
-use Rattle.std.proofs.lemmas.Int.{ints}
-use Rattle.std.specs.List.{AllByRecursion, flat_map, range_with_len}
-use Rattle.std.specs.Prelude.{ℤ, pos, ◌+ℤ◌, Bool, true, false, nat_eq, zero, suc, map, slice_get}
-use Rattle.snd_base.specs.declared.places.Segment.{Segment}
-use Rattle.mix_core.specs.declared.port.Entry.{Entry}
-use Rattle.mix_core.specs.HistoryLaws.{fold-from, total-append}
-use Rattle.mix_core.specs.Laid.{sum_of_samples, total}
-use Rattle.wav_io.specs.Sound.{Sound}
-use Rattle.lab_lines.specs.declared.script.ClientLine.{ClientLine}
-use Rattle.lab_lines.specs.declared.script.Script.{Script}
-use Rattle.lab_run.specs.OwnRows.{segments_by}
-use Rattle.run_laws.specs.Files.{file_samples}
-use Rattle.lab_check.specs.Late.{entries_of_segment}
-use Rattle.lab_check.specs.Segments.{is_right_segment, is_segment_of}
+use Rattle.lab_check.specs.Prelude.{ap, arith, length, List, Option, refl, subst, sym, ℕ, [], ◌++◌, ◌+◌, ◌<◌, ◌∙◌, ◌∷◌, ◌≡◌, ◌≤◌, eqb-false, eqb-true}
+use Rattle.lab_check.specs.Prelude.{nat_tests, ints, AllByRecursion, flat_map, range_with_len, Bool, false, map, nat_eq, pos, slice_get, suc, true, zero, ℤ}
+use Rattle.lab_check.specs.Prelude.{◌+ℤ◌, Segment, Entry, fold-from, total-append, sum_of_samples, total, Sound, ClientLine, Script, segments_by, file_samples}
+use Rattle.lab_check.specs.Prelude.{entries_of_segment, is_right_segment, is_segment_of}
 
 abbrev pub sum_over : (ℕ → ℤ) → ℕ → ℕ → ℤ
 sum_over f first n = sum_of_samples (map f (range_with_len first n))

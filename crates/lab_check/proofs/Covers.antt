@@ -1,24 +1,9 @@
 -- The frames and channels at which a segment has a sample, by its numbers.
-use Rattle.std.proofs.Common.{◌≡◌, ℕ, ◌+◌, ◌-◌, ◌<◌, ◌≤◌, refl, sym, ◌∙◌, ap, subst, arith, List, [], ◌∷◌, length, drop, Some, None}
-use Rattle.std.proofs.lemmas.Bool.{eq-eqb, ne_eqb}
-use Rattle.std.proofs.lemmas.Bool.Decides.{nat_tests}
-use Rattle.std.proofs.lemmas.List.{drop_more}
-use Rattle.std.proofs.lemmas.List.Folds.{list_any-append}
-use Rattle.std.proofs.Math.Bool.{and-false}
-use Rattle.std.specs.List.{flat_map, list_any, range_with_len}
-use Rattle.std.specs.Prelude.{ℤ, Bool, true, false, ◌==◌, ◌&&◌, ◌||◌, nat_eq, nat_lt, nat_le, zero, suc, if◌then◌else◌, map, slice_get, slice_index, take}
-use Rattle.snd_base.specs.declared.places.Segment.{Segment}
-use Rattle.bindings.specs.Bound.{rising}
-use Rattle.mix_core.specs.declared.port.Entry.{Entry}
-use Rattle.mix_core.specs.declared.port.Kind.TheVariants.{Added}
-use Rattle.mix_core.specs.Laid.{is_at}
-use Rattle.wav_io.specs.Sound.{Sound}
-use Rattle.dmix_client.specs.Expansion.{expand, frame_entries, sample_at}
-use Rattle.lab_lines.specs.declared.script.ClientLine.{ClientLine}
-use Rattle.lab_lines.specs.declared.script.Script.{Script}
-use Rattle.lab_run.specs.Openings.{bound_by}
-use Rattle.lab_check.specs.Covering.{reaches_frame, last_on, reaches_channel}
-use Rattle.lab_check.specs.Late.{covers, has_sample}
+use Rattle.lab_check.specs.Prelude.{ap, arith, drop, length, List, None, refl, Some, subst, sym, take, ℕ, [], ◌+◌, ◌-◌, ◌<◌, ◌==◌, ◌∙◌, ◌∷◌, ◌≡◌, ◌≤◌}
+use Rattle.lab_check.specs.Prelude.{and-false, eq-eqb, ne_eqb, nat_tests, drop_more, list_any-append, flat_map, list_any, range_with_len, Bool, false}
+use Rattle.lab_check.specs.Prelude.{if◌then◌else◌, map, nat_eq, nat_le, nat_lt, slice_get, slice_index, suc, true, zero, ℤ, ◌&&◌, ◌||◌, Segment, rising, Entry}
+use Rattle.lab_check.specs.Prelude.{Added, is_at, expand, frame_entries, sample_at, Sound, ClientLine, Script, bound_by, last_on, reaches_channel}
+use Rattle.lab_check.specs.Prelude.{reaches_frame, covers, has_sample}
 
 -- a part of both of two tests
 and-or : (t a b : Bool) → ((t && a) || (t && b)) ≡ (t && (a || b))

@@ -1,27 +1,10 @@
 -- The samples of a checked run are so few that a canonical file holds them.
-use Rattle.std.proofs.Common.{◌≡◌, ℕ, ◌+◌, ◌-◌, ◌*◌, ◌^◌, ◌<◌, ◌≤◌, refl, sym, ap, subst, arith, mul-le-mul, List, [], ◌∷◌, length, Option, Some, None}
-use Rattle.std.proofs.lemmas.Bool.{leb-true}
-use Rattle.std.proofs.lemmas.List.Elements.{All-get_or}
-use Rattle.std.proofs.lemmas.List.FromFn.{length-map-range_with_len, length-range_with_len}
-use Rattle.std.proofs.lemmas.Option.{get_or_from_slice_get, slice_get_within}
-use Rattle.std.specs.Prelude.{Bool, true, false, ◌&&◌, nat_le, nat_lt, if◌then◌else◌, map, slice_get, unwrap_or}
-use Rattle.bindings.specs.AnswerLaws.{AreBindings-answered}
-use Rattle.bindings.specs.Bound.{identity}
-use Rattle.wav_io.specs.Sound.{Sound}
-use Rattle.lab_lines.specs.declared.report.Report.{Report}
-use Rattle.lab_lines.specs.declared.script.CardLine.{CardLine}
-use Rattle.lab_lines.specs.declared.script.ReaderLine.{ReaderLine}
-use Rattle.lab_lines.specs.declared.script.Script.{Script}
-use Rattle.lab_lines.specs.Limits.{IsBoundWhere, IsCardLine, IsReaderLine, IsScript}
-use Rattle.lab_run.specs.LabRun.{mixed_at}
-use Rattle.lab_run.specs.Openings.{read_by}
-use Rattle.lab_run.specs.OwnRows.{runs_by}
-use Rattle.run_laws.specs.Files.{placed_from}
-use Rattle.run_laws.specs.Recordings.{frames_in_runs}
-use Rattle.lab_check.specs.Defects.{HasTestedRuns, HasTestedSegments}
-use Rattle.lab_check.specs.Lines.{first_run_line}
-use Rattle.lab_check.specs.Reads.{lined_runs, reader_defect, run_defect}
-use Rattle.lab_check.specs.Samples.{played_samples, reader_samples}
+use Rattle.lab_check.specs.Prelude.{ap, arith, length, List, mul-le-mul, None, Option, refl, Some, subst, sym, ℕ, [], ◌*◌, ◌+◌, ◌-◌, ◌<◌, ◌^◌, ◌∷◌, ◌≡◌, ◌≤◌}
+use Rattle.lab_check.specs.Prelude.{leb-true, All-get_or, length-map-range_with_len, length-range_with_len, get_or_from_slice_get, slice_get_within, Bool}
+use Rattle.lab_check.specs.Prelude.{false, if◌then◌else◌, map, nat_le, nat_lt, slice_get, true, unwrap_or, ◌&&◌, AreBindings-answered, identity, Sound, Report}
+use Rattle.lab_check.specs.Prelude.{CardLine, ReaderLine, Script, IsBoundWhere, IsCardLine, IsReaderLine, IsScript, mixed_at, read_by, runs_by, placed_from}
+use Rattle.lab_check.specs.Prelude.{frames_in_runs, HasTestedRuns, HasTestedSegments, first_run_line, lined_runs, reader_defect, run_defect, played_samples}
+use Rattle.lab_check.specs.Prelude.{reader_samples}
 use Rattle.lab_check.proofs.Shows.{reader-shows}
 use Rattle.lab_check.proofs.Slices.{lines-off, unlined}
 use Rattle.lab_check.proofs.Tested.{first-none, one_reader, played-passes}

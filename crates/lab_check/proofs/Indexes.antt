@@ -1,18 +1,8 @@
 -- The indexes of all clients and channels tell where a client has a sample.
-use Rattle.std.proofs.lemmas.Option.{slice_get_past}
-use Rattle.std.proofs.Common.{◌≡◌, ℕ, ◌+◌, ◌*◌, ◌/◌, ◌%◌, ◌^◌, ◌<◌, ◌≤◌, ◌⊎◌, inl, inr, refl, sym, ◌∙◌, ap, subst, arith, mul-le-mul, List, [], ◌∷◌, ◌++◌, length}
-use Rattle.std.proofs.lemmas.Bool.{cases_lt}
-use Rattle.std.proofs.lemmas.List.Elements.{recursion_from_All}
-use Rattle.std.proofs.lemmas.Nat.{div-mul-add, mod-mul-add}
-use Rattle.std.specs.List.{AllByRecursion, list_any}
-use Rattle.std.specs.Prelude.{All, true, false, ◌||◌, slice_get, suc}
-use Rattle.snd_base.specs.declared.places.Segment.{Segment}
-use Rattle.wav_io.specs.Sound.{Sound}
-use Rattle.lab_lines.specs.declared.script.Script.{Script}
-use Rattle.lab_check.specs.declared.spans.FrameSpan.{FrameSpan}
-use Rattle.lab_check.specs.Late.{covers}
-use Rattle.lab_check.specs.Segments.{is_right_segment}
-use Rattle.lab_check.specs.Spans.{AreIndexes, has_client_sample, is_in_index, is_in_span}
+use Rattle.lab_check.specs.Prelude.{ap, arith, inl, inr, length, List, mul-le-mul, refl, subst, sym, ℕ, [], ◌%◌, ◌*◌, ◌++◌, ◌+◌, ◌/◌, ◌<◌, ◌^◌, ◌∙◌, ◌∷◌, ◌≡◌}
+use Rattle.lab_check.specs.Prelude.{◌≤◌, ◌⊎◌, cases_lt, recursion_from_All, div-mul-add, mod-mul-add, slice_get_past, AllByRecursion, list_any, All, false}
+use Rattle.lab_check.specs.Prelude.{slice_get, suc, true, ◌||◌, Segment, Sound, Script, FrameSpan, covers, is_right_segment, AreIndexes, has_client_sample}
+use Rattle.lab_check.specs.Prelude.{is_in_index, is_in_span}
 use Rattle.lab_check.proofs.ClientTotals.{in-range}
 use Rattle.lab_check.proofs.Covers.{covers-other}
 use Rattle.lab_check.proofs.SpanSearch.{get-before, get-pushed}

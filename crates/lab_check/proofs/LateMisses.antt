@@ -1,22 +1,11 @@
 -- A late row of a report that passes names a place without a sample of its client, or, of a rewind, with one.
-use Rattle.std.proofs.Common.{◌≡◌, ◌≢◌, ℕ, refl, sym, ◌∙◌, ap, subst, List, [], ◌∷◌, Some}
-use Rattle.std.proofs.lemmas.Bool.{and_parts, ltb-true, not-true}
-use Rattle.std.proofs.lemmas.List.Folds.{list_any-append}
-use Rattle.std.specs.List.{AllByRecursion, flat_map, list_any}
-use Rattle.std.specs.Prelude.{Bool, true, false, not, ◌&&◌, ◌||◌, nat_eq, nat_lt, if◌then◌else◌, map, filter}
-use Rattle.snd_base.specs.declared.places.Segment.{Segment}
-use Rattle.mix_core.specs.declared.port.Entry.{Entry}
-use Rattle.mix_core.specs.Laid.{at, is_at, value_of}
-use Rattle.wav_io.specs.Sound.{Sound}
-use Rattle.lab_lines.specs.declared.report.Report.{Report}
+use Rattle.lab_check.specs.Prelude.{ap, List, refl, Some, subst, sym, ℕ, [], ◌∙◌, ◌∷◌, ◌≡◌, ◌≢◌, and_parts, ltb-true, not-true, list_any-append, AllByRecursion}
+use Rattle.lab_check.specs.Prelude.{flat_map, list_any, Bool, false, filter, if◌then◌else◌, map, nat_eq, nat_lt, not, true, ◌&&◌, ◌||◌, Segment, Entry, at}
+use Rattle.lab_check.specs.Prelude.{is_at, value_of, Sound, Report, Row, Script, segments_by, covers, entries_of_segment, has_sample, is_covered}
+use Rattle.lab_check.specs.Prelude.{is_right_place, is_right_row, late_place, ShowsLate}
 use Rattle.lab_lines.specs.declared.row.Answer.{Answer}
-use Rattle.lab_lines.specs.declared.row.Row.{Row}
-use Rattle.lab_lines.specs.declared.script.Script.{Script}
-use Rattle.run_laws.specs.LateRows.{is_rewind}
-use Rattle.lab_run.specs.OwnRows.{segments_by}
 use Rattle.run_laws.specs.Late.{IsLate}
-use Rattle.lab_check.specs.Late.{covers, has_sample, is_covered, is_right_place, is_right_row, late_place, entries_of_segment}
-use Rattle.lab_check.specs.Shown.{ShowsLate}
+use Rattle.run_laws.specs.LateRows.{is_rewind}
 
 -- no entry is at a place
 pub none-at : (es : List Entry) (frame channel : ℕ) → has_sample es frame channel ≡ false → at es frame channel ≡ []

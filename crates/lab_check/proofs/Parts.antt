@@ -1,28 +1,9 @@
 -- What is known of a segment that can be: where its client's channels go, and that its samples are there.
-use Rattle.std.proofs.Common.{◌≡◌, ℕ, ◌+◌, ◌*◌, ◌<◌, ◌≤◌, refl, sym, ◌∙◌, ap, subst, arith, mul-le-mul, List, [], ◌∷◌, ◌++◌, length, get_or, Option, Some, None}
-use Rattle.std.proofs.lemmas.Bool.{and_parts, eqb-true, leb-true, ltb-true}
-use Rattle.std.proofs.lemmas.List.{take_more}
-use Rattle.std.proofs.lemmas.Grind.{flat_map-append}
-use Rattle.std.proofs.lemmas.List.{append-nil}
-use Rattle.std.proofs.lemmas.List.Elements.{All-get_or}
-use Rattle.std.proofs.lemmas.List.FromFn.{get_or-range_with_len, length-range_with_len}
-use Rattle.std.proofs.lemmas.Option.{get_or_from_slice_get, slice_get_within}
-use Rattle.std.proofs.Math.Nat.{div-mul-le_self}
-use Rattle.std.specs.Prelude.{ℤ, true, slice_get, slice_index, take}
-use Rattle.bindings.specs.AnswerLaws.{All-below-answered}
-use Rattle.bindings.specs.Bound.{identity}
-use Rattle.snd_base.specs.declared.places.Segment.{Segment}
-use Rattle.mix_core.specs.declared.port.Entry.{Entry}
-use Rattle.wav_io.specs.Sound.{Sound}
-use Rattle.dmix_client.specs.Expansion.{expand}
-use Rattle.lab_lines.specs.declared.script.ClientLine.{ClientLine}
-use Rattle.lab_lines.specs.declared.script.Script.{Script}
-use Rattle.lab_lines.specs.Limits.{IsBoundWhere, IsClientLine, IsScript}
-use Rattle.lab_run.specs.Client.{frames_of}
-use Rattle.lab_run.specs.Openings.{bound_by}
-use Rattle.lab_check.specs.Late.{entries_of_segment}
-use Rattle.lab_check.specs.Segments.{frames_taken, is_bound, is_right_segment, is_within}
-use Rattle.lab_check.specs.Sums.{IsSummed, entries_of_segments}
+use Rattle.lab_check.specs.Prelude.{ap, arith, get_or, length, List, mul-le-mul, None, Option, refl, Some, subst, sym, take, ℕ, [], ◌*◌, ◌++◌, ◌+◌, ◌<◌, ◌∙◌}
+use Rattle.lab_check.specs.Prelude.{◌∷◌, ◌≡◌, ◌≤◌, div-mul-le_self, and_parts, eqb-true, leb-true, ltb-true, flat_map-append, append-nil, take_more, All-get_or}
+use Rattle.lab_check.specs.Prelude.{get_or-range_with_len, length-range_with_len, get_or_from_slice_get, slice_get_within, slice_get, slice_index, true, ℤ}
+use Rattle.lab_check.specs.Prelude.{Segment, All-below-answered, identity, Entry, expand, Sound, ClientLine, Script, IsBoundWhere, IsClientLine, IsScript}
+use Rattle.lab_check.specs.Prelude.{frames_of, bound_by, entries_of_segment, frames_taken, is_bound, is_right_segment, is_within, entries_of_segments, IsSummed}
 use Rattle.lab_check.proofs.Summing.{summed-both}
 
 -- a segment that can be, of a client with this line and file

@@ -1,11 +1,7 @@
 -- Runs without a defect end at numbers of 64 bits; and the readers, one after the other.
-use Rattle.std.proofs.Common.{◌≡◌, ℕ, ◌+◌, ◌-◌, ◌<◌, ◌≤◌, refl, ap, arith, List, [], ◌∷◌, Some, None}
-use Rattle.std.proofs.lemmas.Bool.Decides.{nat_tests}
-use Rattle.std.specs.Prelude.{Bool, true, false, ◌&&◌, nat_le, nat_lt, suc, if◌then◌else◌, ◌^◌}
-use Rattle.lab_lines.specs.declared.report.Report.{Report}
-use Rattle.lab_check.specs.Lines.{first_run_line}
-use Rattle.lab_check.specs.Reads.{first_defect, reader_defect, readers_defect, run_defect, runs_with_lines}
-use Rattle.lab_check.specs.Unread.{RunsFit}
+use Rattle.lab_check.specs.Prelude.{ap, arith, List, None, refl, Some, ℕ, [], ◌+◌, ◌-◌, ◌<◌, ◌^◌, ◌∷◌, ◌≡◌, ◌≤◌, nat_tests, Bool, false, if◌then◌else◌, nat_le}
+use Rattle.lab_check.specs.Prelude.{nat_lt, suc, true, ◌&&◌, Report, first_run_line, first_defect, reader_defect, readers_defect, run_defect, runs_with_lines}
+use Rattle.lab_check.specs.Prelude.{RunsFit}
 use Rattle.lab_check.proofs.Tested.{first-none}
 
 pub runs_below : (least end : ℕ) (runs : List (ℕ × ℕ × ℕ)) → end + 1 < 2 ^ 64 → run_defect least end runs ≡ None → RunsFit runs

@@ -1,15 +1,7 @@
 -- What was recorded, frame by frame and run by run.
-use Rattle.std.proofs.Common.{◌≡◌, ℕ, ◌+◌, sym, ◌∙◌, ap, arith, List, [], ◌∷◌, ◌++◌, append_assoc, Option, Some}
-use Rattle.std.proofs.lemmas.Grind.{flat_map-append}
-use Rattle.std.proofs.lemmas.List.{append-nil}
-use Rattle.std.specs.List.{flat_map, range_with_len}
-use Rattle.std.specs.Prelude.{ℤ, zero, suc, slice_get, slice_index_or}
-use Rattle.wav_io.specs.Sound.{Sound}
-use Rattle.dmix_client.specs.ExpansionLaws.{range_with_len-append}
-use Rattle.lab_lines.specs.declared.report.Report.{Report}
-use Rattle.lab_lines.specs.declared.script.CardLine.{CardLine}
-use Rattle.lab_lines.specs.declared.script.ReaderLine.{ReaderLine}
-use Rattle.lab_check.specs.Samples.{reader_samples, readers_samples}
+use Rattle.lab_check.specs.Prelude.{ap, append_assoc, arith, List, Option, Some, sym, ℕ, [], ◌++◌, ◌+◌, ◌∙◌, ◌∷◌, ◌≡◌, flat_map-append, append-nil, flat_map}
+use Rattle.lab_check.specs.Prelude.{range_with_len, slice_get, slice_index_or, suc, zero, ℤ, range_with_len-append, Sound, Report, CardLine, ReaderLine}
+use Rattle.lab_check.specs.Prelude.{reader_samples, readers_samples}
 
 -- one frame more
 pub frame-more : (of : ℕ → List ℤ) (first n : ℕ) (before : List ℤ)

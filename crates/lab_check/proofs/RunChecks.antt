@@ -1,21 +1,11 @@
 -- What a run leaves has what the tests of a report and files ask for.
-use Rattle.std.proofs.Common.{◌≡◌, ℕ, ◌+◌, ◌-◌, sym, ◌∙◌, ap, arith, List, [], length, Option}
-use Rattle.std.proofs.lemmas.List.{append-nil, take_all}
-use Rattle.std.specs.Prelude.{take}
-use Rattle.wav_io.specs.Sound.{Sound}
-use Rattle.lab_lines.specs.declared.script.Script.{Script}
-use Rattle.lab_lines.specs.Limits.{IsScript}
-use Rattle.lab_lines.specs.Script.{first_frame, frames_played, phases_of}
-use Rattle.lab_report.specs.Reading.{report_in_text}
+use Rattle.lab_check.specs.Prelude.{ap, arith, length, List, Option, sym, take, ℕ, [], ◌+◌, ◌-◌, ◌∙◌, ◌≡◌, append-nil, take_all, Sound, Script, IsScript}
+use Rattle.lab_check.specs.Prelude.{first_frame, frames_played, phases_of, report_in_text, LabRun, Outcome, IsSessionOf, Session, UnopenedHaveNoRuns}
+use Rattle.lab_check.specs.Prelude.{AreOfClients}
 use Rattle.lab_report.proofs.Back.{report_in_text-text}
-use Rattle.lab_run.specs.LabRun.{LabRun, Outcome}
-use Rattle.lab_run.specs.Openings.{IsSessionOf}
 use Rattle.lab_run.specs.ScriptWords.{IsReached}
-use Rattle.lab_run.specs.Stage.{Session}
 use Rattle.lab_run.proofs.ScriptWords.{stages-of_scripts}
 use Rattle.run_laws.specs.Headline.{Headline}
-use Rattle.run_laws.specs.Recordings.{UnopenedHaveNoRuns}
-use Rattle.run_laws.specs.Segments.{AreOfClients}
 use Rattle.run_laws.specs.Reports.{IsOutcomeOf}
 use Rattle.run_laws.proofs.CapturedRuns.{readers-capture}
 use Rattle.run_laws.proofs.Runs.{outcomes-are_of_scripts}

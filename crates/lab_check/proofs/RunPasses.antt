@@ -1,41 +1,17 @@
 -- The tests that the report of a run passes, and the samples that it says.
-use Rattle.std.proofs.Common.{◌≡◌, ℕ, ◌+◌, ◌*◌, ◌<◌, ◌≤◌, refl, sym, ◌∙◌, ap, subst, arith, inl, inr, ◌⊎◌, List, [], ◌∷◌, length, map, Option, Some, None}
-use Rattle.std.proofs.lemmas.Bool.{and_from, eq-eqb, le-leb, le-ltb}
-use Rattle.std.proofs.lemmas.Bool.Decides.{nat_tests}
-use Rattle.std.proofs.lemmas.List.Elements.{recursion_from_All}
-use Rattle.std.proofs.lemmas.Option.{slice_get_within}
-use Rattle.std.specs.List.{AllByRecursion, flat_map, position, prefix_len, range_with_len}
-use Rattle.std.specs.Prelude.{Bool, true, cond, not, nat_eq, nat_lt, zero, suc, if◌then◌else◌, option_map, ℤ, slice_get, slice_index_or, Ok, Err}
-use Rattle.snd_base.specs.declared.places.Segment.{Segment}
-use Rattle.wav_io.specs.Canonical.{canonical}
-use Rattle.wav_io.specs.Sound.{Sound}
-use Rattle.lab_lines.specs.declared.report.Report.{Report}
-use Rattle.lab_lines.specs.declared.row.Row.{Row}
-use Rattle.lab_lines.specs.declared.script.CardLine.{CardLine}
-use Rattle.lab_lines.specs.declared.script.ReaderLine.{ReaderLine}
-use Rattle.lab_lines.specs.declared.script.Script.{Script}
-use Rattle.lab_lines.specs.Script.{first_frame, frames_played, phases_of}
+use Rattle.lab_check.specs.Prelude.{ap, arith, inl, inr, length, List, None, Option, refl, Some, subst, sym, ℕ, [], ◌*◌, ◌+◌, ◌<◌, ◌∙◌, ◌∷◌, ◌≡◌, ◌≤◌, ◌⊎◌}
+use Rattle.lab_check.specs.Prelude.{and_from, eq-eqb, le-leb, le-ltb, nat_tests, recursion_from_All, slice_get_within, AllByRecursion, flat_map, position}
+use Rattle.lab_check.specs.Prelude.{prefix_len, range_with_len, Bool, cond, Err, if◌then◌else◌, map, nat_eq, nat_lt, not, Ok, option_map, slice_get}
+use Rattle.lab_check.specs.Prelude.{slice_index_or, suc, true, zero, ℤ, Segment, canonical, Sound, Report, Row, CardLine, ReaderLine, Script, first_frame}
+use Rattle.lab_check.specs.Prelude.{frames_played, phases_of, report_in_text, report_text, frames_of, captured_sample, entries_of, mixed_at, Outcome}
+use Rattle.lab_check.specs.Prelude.{outcome_of, report_of, IsSessionOf, read_by, runs_by, Session, Stage, AreCapturedRuns, IsPlacedFrom, AreRecordingsOf}
+use Rattle.lab_check.specs.Prelude.{bindings_at, frames_of_runs, ReadersAreBound, recording_of, UnopenedHaveNoRuns, AreOfClients, IsOfClient, IsChecked}
+use Rattle.lab_check.specs.Prelude.{run_sounds, most_of_report, played_defect, report_defect, report_or_line, row_defect, segment_defect, tested, tested_report}
+use Rattle.lab_check.specs.Prelude.{is_right_place, is_right_row, late_place, first_row_line, first_segment_line, line_of_played, reader_defect, readers_defect}
+use Rattle.lab_check.specs.Prelude.{captured_by, captured_runs, played_samples, reader_samples, readers_samples, run_samples, frames_taken, is_bound}
+use Rattle.lab_check.specs.Prelude.{is_right_segment, is_within, SaysHeadline}
 use Rattle.lab_report.specs.Ranges.{IsReportInRange}
-use Rattle.lab_report.specs.Reading.{report_in_text}
-use Rattle.lab_report.specs.Text.{report_text}
-use Rattle.lab_run.specs.Client.{frames_of}
-use Rattle.lab_run.specs.LabRun.{Outcome, captured_sample, entries_of, mixed_at, outcome_of, report_of}
-use Rattle.lab_run.specs.Openings.{IsSessionOf, read_by}
-use Rattle.lab_run.specs.OwnRows.{runs_by}
-use Rattle.lab_run.specs.Stage.{Session, Stage}
-use Rattle.run_laws.specs.Files.{IsPlacedFrom}
-use Rattle.run_laws.specs.Recordings.{AreRecordingsOf, ReadersAreBound, UnopenedHaveNoRuns, bindings_at, frames_of_runs, recording_of}
-use Rattle.run_laws.specs.Segments.{AreOfClients, IsOfClient}
-use Rattle.run_laws.specs.Captured.{AreCapturedRuns}
-use Rattle.lab_check.specs.Checked.{IsChecked, run_sounds}
-use Rattle.lab_check.specs.Defects.{most_of_report, played_defect, report_defect, report_or_line, row_defect, segment_defect, tested, tested_report}
-use Rattle.lab_check.specs.Late.{is_right_place, is_right_row, late_place}
-use Rattle.lab_check.specs.Lines.{first_row_line, first_segment_line, line_of_played}
-use Rattle.lab_check.specs.Reads.{reader_defect, readers_defect}
 use Rattle.lab_check.specs.Runs.{CanPass, UnlateRowsPass, samples_of_run}
-use Rattle.lab_check.specs.Samples.{captured_by, captured_runs, played_samples, reader_samples, readers_samples, run_samples}
-use Rattle.lab_check.specs.Segments.{frames_taken, is_bound, is_right_segment, is_within}
-use Rattle.lab_check.specs.Shown.{SaysHeadline}
 use Rattle.lab_check.proofs.RunReads.{both-none, reader-passes}
 use Rattle.lab_check.proofs.Shows.{says-headline}
 

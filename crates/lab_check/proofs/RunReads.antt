@@ -1,19 +1,9 @@
 -- A reader whose rows read its runs in slices, where each run is of captured frames, has no defect.
-use Rattle.std.proofs.Common.{◌≡◌, ℕ, ◌+◌, ◌-◌, ◌<◌, ◌≤◌, refl, sym, ◌∙◌, ap, subst, arith, List, [], ◌∷◌, ◌++◌, Option, Some, None}
-use Rattle.std.proofs.lemmas.Bool.{and_from, eq-eqb, le-leb}
-use Rattle.std.proofs.lemmas.Bool.Decides.{nat_tests}
-use Rattle.std.proofs.lemmas.List.{append_cancel_left}
-use Rattle.std.specs.List.{range_with_len}
-use Rattle.std.specs.Prelude.{Bool, true, false, ◌&&◌, nat_eq, nat_le, zero, suc, if◌then◌else◌, map, Ok}
-use Rattle.lab_lines.specs.declared.report.Report.{Report}
-use Rattle.lab_lines.specs.declared.row.Row.{Row}
-use Rattle.lab_run.specs.OwnRows.{rows_by, runs_by}
-use Rattle.lab_run.specs.Phases.{is_reader}
-use Rattle.lab_run.specs.Stretches.{AreSlices, IsFirstOf, ends_by_row, goes_on_after, got_by}
-use Rattle.run_laws.specs.Recordings.{frames_of_runs}
-use Rattle.run_laws.specs.Captured.{AreCapturedRuns}
-use Rattle.lab_check.specs.Lines.{first_row_line, first_run_line}
-use Rattle.lab_check.specs.Reads.{Unread, after_row, end_defect, first_defect, is_next, is_run_within, lined_runs, on_row, reader_defect, reads_end, run_defect, runs_without, taken_by}
+use Rattle.lab_check.specs.Prelude.{ap, arith, List, None, Option, refl, Some, subst, sym, ℕ, [], ◌++◌, ◌+◌, ◌-◌, ◌<◌, ◌∙◌, ◌∷◌, ◌≡◌, ◌≤◌, and_from, eq-eqb}
+use Rattle.lab_check.specs.Prelude.{le-leb, nat_tests, append_cancel_left, range_with_len, Bool, false, if◌then◌else◌, map, nat_eq, nat_le, Ok, suc, true, zero}
+use Rattle.lab_check.specs.Prelude.{◌&&◌, Report, Row, rows_by, runs_by, is_reader, AreSlices, ends_by_row, goes_on_after, got_by, IsFirstOf, AreCapturedRuns}
+use Rattle.lab_check.specs.Prelude.{frames_of_runs, first_row_line, first_run_line, after_row, end_defect, first_defect, is_next, is_run_within, lined_runs}
+use Rattle.lab_check.specs.Prelude.{on_row, reader_defect, reads_end, run_defect, runs_without, taken_by, Unread}
 use Rattle.lab_check.proofs.Slices.{frames-taken, goes-without, lines-off, unlined, unread_frames}
 
 -- ---- runs

@@ -1,19 +1,8 @@
 -- Sums that are saturated are the samples that are played.
-use Rattle.std.proofs.Common.{◌≡◌, ℕ, ◌+◌, ◌*◌, ◌/◌, ◌%◌, ◌<◌, refl, sym, ◌∙◌, ap, subst, arith, List, [], ◌∷◌, ◌++◌, length, take, drop, append_assoc}
-use Rattle.std.proofs.lemmas.Int.{ints}
-use Rattle.std.proofs.lemmas.List.{get_or-replicate, length-replicate, map-append, take-append-le, take_all}
-use Rattle.std.proofs.lemmas.List.FromFn.{map-range_with_len_more}
-use Rattle.std.proofs.lemmas.Nat.{div-mul-add, mod-mul-add}
-use Rattle.std.proofs.Math.Nat.{div-add-mod, mod-lt}
-use Rattle.std.specs.Int.{int_wrap, w64}
-use Rattle.std.specs.List.{range_with_len}
-use Rattle.std.specs.Prelude.{ℤ, pos, ◌+ℤ◌, zero, suc, map, replicate, slice_index_or}
-use Rattle.lap_word.specs.Clamp.{clamp_of}
-use Rattle.mix_core.specs.declared.port.Entry.{Entry}
-use Rattle.mix_core.specs.Laid.{total}
-use Rattle.dmix_client.specs.ExpansionLaws.{range_with_len-append}
-use Rattle.lab_run.specs.LabRun.{mixed_at}
-use Rattle.lab_check.specs.Sums.{IsSummed}
+use Rattle.lab_check.specs.Prelude.{ap, append_assoc, arith, drop, length, List, refl, subst, sym, take, ℕ, [], ◌%◌, ◌*◌, ◌++◌, ◌+◌, ◌/◌, ◌<◌, ◌∙◌, ◌∷◌, ◌≡◌}
+use Rattle.lab_check.specs.Prelude.{div-add-mod, mod-lt, ints, get_or-replicate, length-replicate, map-append, take-append-le, take_all}
+use Rattle.lab_check.specs.Prelude.{map-range_with_len_more, div-mul-add, mod-mul-add, int_wrap, w64, range_with_len, map, pos, replicate, slice_index_or, suc}
+use Rattle.lab_check.specs.Prelude.{zero, ℤ, ◌+ℤ◌, clamp_of, Entry, total, range_with_len-append, mixed_at, IsSummed}
 
 -- a sum is the total at its place, up to a multiple of 2^64
 pub saturated-total : (channels from : ℕ) (es : List Entry) (sums : List ℤ) (k : ℕ) → IsSummed channels from es (replicate (length sums) (pos 0)) sums → k < length sums

@@ -1,37 +1,16 @@
 -- What a checked run shows.
-use Rattle.std.proofs.Common.{◌≡◌, ℕ, ◌+◌, ◌*◌, ◌%◌, ◌<◌, ◌≤◌, refl, sym, ◌∙◌, ap, subst, arith, mul-le-mul, List, [], ◌∷◌, length, Option, Some, None}
-use Rattle.std.proofs.lemmas.List.{length-append, length-map}
-use Rattle.std.proofs.lemmas.List.Elements.{All-from_recursion}
-use Rattle.std.proofs.lemmas.List.FromFn.{get_or-map-range_with_len, length-map-range_with_len, length-range_with_len}
-use Rattle.std.proofs.lemmas.Nat.{div-mul-add, mod-mul-add}
-use Rattle.std.proofs.lemmas.Option.{slice_get_within}
-use Rattle.std.specs.List.{AllByRecursion, flat_map, range_with_len}
-use Rattle.std.specs.Prelude.{ℤ, pos, true, suc, map, slice_get, slice_index_or}
-use Rattle.lap_word.specs.Clamp.{clamp_of}
-use Rattle.mix_core.specs.Laid.{total}
-use Rattle.wav_io.specs.Sound.{Sound}
-use Rattle.lab_lines.specs.declared.report.Report.{Report}
-use Rattle.lab_lines.specs.declared.script.CardLine.{CardLine}
-use Rattle.lab_lines.specs.declared.script.ReaderLine.{ReaderLine}
-use Rattle.lab_lines.specs.declared.script.Script.{Script}
-use Rattle.lab_lines.specs.Script.{first_frame}
-use Rattle.lab_run.specs.LabRun.{mixed_at}
-use Rattle.lab_run.specs.Openings.{read_by}
-use Rattle.lab_run.specs.OwnRows.{rows_by, runs_by}
-use Rattle.lab_run.specs.Phases.{is_reader}
-use Rattle.lab_run.specs.Stretches.{AreSlices}
-use Rattle.run_laws.specs.Files.{IsMixOfFiles, placed_from}
-use Rattle.run_laws.specs.Recordings.{frames_in_runs, frames_of_runs}
-use Rattle.lab_check.specs.Checked.{IsChecked}
-use Rattle.lab_check.specs.Lines.{first_row_line, first_run_line}
-use Rattle.lab_check.specs.Reads.{end_defect, reader_defect, readers_defect, reads_end, run_defect, runs_with_lines}
-use Rattle.lab_check.specs.Samples.{captured_by, captured_runs, played_samples, readers_samples, run_samples}
-use Rattle.lab_check.specs.Segments.{is_right_segment}
-use Rattle.lab_check.specs.Shown.{IsCapturedRun, IsShown, SaysHeadline, ShowsLate, ShowsReader, ShowsSamples}
-use Rattle.lab_check.proofs.LateMisses.{rows-show}
-use Rattle.lab_check.proofs.Slices.{TookAll, lines-off, rows-took, runs-captured, unlined}
+use Rattle.lab_check.specs.Prelude.{ap, arith, length, List, mul-le-mul, None, Option, refl, Some, subst, sym, ℕ, [], ◌%◌, ◌*◌, ◌+◌, ◌<◌, ◌∙◌, ◌∷◌, ◌≡◌, ◌≤◌}
+use Rattle.lab_check.specs.Prelude.{length-append, length-map, All-from_recursion, get_or-map-range_with_len, length-map-range_with_len, length-range_with_len}
+use Rattle.lab_check.specs.Prelude.{div-mul-add, mod-mul-add, slice_get_within, AllByRecursion, flat_map, range_with_len, map, pos, slice_get, slice_index_or}
+use Rattle.lab_check.specs.Prelude.{suc, true, ℤ, clamp_of, total, Sound, Report, CardLine, ReaderLine, Script, first_frame, mixed_at, read_by, rows_by}
+use Rattle.lab_check.specs.Prelude.{runs_by, is_reader, AreSlices, IsMixOfFiles, placed_from, frames_in_runs, frames_of_runs, IsChecked, first_row_line}
+use Rattle.lab_check.specs.Prelude.{first_run_line, end_defect, reader_defect, readers_defect, reads_end, run_defect, runs_with_lines, captured_by}
+use Rattle.lab_check.specs.Prelude.{captured_runs, played_samples, readers_samples, run_samples, is_right_segment, IsCapturedRun, IsShown, SaysHeadline}
+use Rattle.lab_check.specs.Prelude.{ShowsLate, ShowsReader, ShowsSamples}
 use Rattle.lab_check.proofs.ClientTotals.{sums-are}
+use Rattle.lab_check.proofs.LateMisses.{rows-show}
 use Rattle.lab_check.proofs.ReaderSamples.{recorded-at}
+use Rattle.lab_check.proofs.Slices.{TookAll, lines-off, rows-took, runs-captured, unlined}
 use Rattle.lab_check.proofs.Tested.{Passes, first-none, one_reader, report-passes, rows-pass, second-none, text-passes}
 
 mix-shows : (script : Script) (wavs : List Sound) (report : Report) → report.first ≡ first_frame script.card → IsMixOfFiles script wavs report (played_samples script wavs report)

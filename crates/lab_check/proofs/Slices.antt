@@ -1,16 +1,9 @@
 -- The rows of a reader that pass took its runs in slices.
-use Rattle.std.proofs.Common.{◌≡◌, ℕ, ◌+◌, ◌-◌, ◌≤◌, refl, sym, ◌∙◌, ap, subst, arith, List, [], ◌∷◌, ◌++◌, Option, Some, None, append_assoc}
-use Rattle.std.proofs.lemmas.Bool.{and_parts, eqb-true, leb-true, ltb-true}
-use Rattle.std.specs.List.{AllByRecursion, range_with_len}
-use Rattle.std.specs.Prelude.{Bool, true, false, ◌&&◌, nat_eq, nat_lt, nat_le, zero, suc, if◌then◌else◌, map, filter, Ok}
-use Rattle.dmix_client.specs.ExpansionLaws.{range_with_len-append}
-use Rattle.lab_lines.specs.declared.row.Row.{Row}
-use Rattle.lab_run.specs.OwnRows.{rows_by, runs_by}
-use Rattle.lab_run.specs.Phases.{is_reader}
-use Rattle.lab_run.specs.Stretches.{AreSlices, IsFirstOf, ends_by_row, goes_on_after, got_by}
-use Rattle.run_laws.specs.Recordings.{frames_of_runs}
-use Rattle.lab_check.specs.Reads.{Unread, after_row, end_defect, is_next, on_row, reads_end, run_defect, runs_with_lines, runs_without, taken_by}
-use Rattle.lab_check.specs.Shown.{IsCapturedRun}
+use Rattle.lab_check.specs.Prelude.{ap, append_assoc, arith, List, None, Option, refl, Some, subst, sym, ℕ, [], ◌++◌, ◌+◌, ◌-◌, ◌∙◌, ◌∷◌, ◌≡◌, ◌≤◌, and_parts}
+use Rattle.lab_check.specs.Prelude.{eqb-true, leb-true, ltb-true, AllByRecursion, range_with_len, Bool, false, filter, if◌then◌else◌, map, nat_eq, nat_le}
+use Rattle.lab_check.specs.Prelude.{nat_lt, Ok, suc, true, zero, ◌&&◌, range_with_len-append, Row, rows_by, runs_by, is_reader, AreSlices, ends_by_row}
+use Rattle.lab_check.specs.Prelude.{goes_on_after, got_by, IsFirstOf, frames_of_runs, after_row, end_defect, is_next, on_row, reads_end, run_defect}
+use Rattle.lab_check.specs.Prelude.{runs_with_lines, runs_without, taken_by, Unread, IsCapturedRun}
 
 -- a run without its line
 abbrev pub unlined : ℕ × ℕ × ℕ → ℕ × ℕ

@@ -1,13 +1,8 @@
 -- A frame is looked up among spans.
-use Rattle.std.proofs.Common.{◌≡◌, ℕ, ◌+◌, ◌-◌, ◌^◌, ◌<◌, ◌≤◌, refl, sym, ◌∙◌, ap, subst, arith, List, [], ◌∷◌, ◌++◌, length, take, get_or, Some, None}
-use Rattle.std.proofs.lemmas.Bool.Decides.{nat_tests}
-use Rattle.std.proofs.lemmas.List.{length-map, map-append, take_more}
-use Rattle.std.proofs.lemmas.List.Folds.{list_any-append}
-use Rattle.std.proofs.Math.Bool.{or-false, or_assoc}
-use Rattle.std.specs.List.{list_any, position, prefix_len}
-use Rattle.std.specs.Prelude.{Bool, true, false, ◌&&◌, ◌||◌, cond, map, max, min, nat_le, nat_lt, not, suc, zero, slice_get, slice_index_or}
-use Rattle.lab_check.specs.declared.spans.FrameSpan.{FrameSpan}
-use Rattle.lab_check.specs.Spans.{greatest_ends, is_in_span}
+use Rattle.lab_check.specs.Prelude.{ap, arith, get_or, length, List, None, refl, Some, subst, sym, take, ℕ, [], ◌++◌, ◌+◌, ◌-◌, ◌<◌, ◌^◌, ◌∙◌, ◌∷◌, ◌≡◌, ◌≤◌}
+use Rattle.lab_check.specs.Prelude.{or-false, or_assoc, nat_tests, length-map, map-append, take_more, list_any-append, list_any, position, prefix_len, Bool}
+use Rattle.lab_check.specs.Prelude.{cond, false, map, max, min, nat_le, nat_lt, not, slice_get, slice_index_or, suc, true, zero, ◌&&◌, ◌||◌, FrameSpan}
+use Rattle.lab_check.specs.Prelude.{greatest_ends, is_in_span}
 
 -- ---- one span
 

@@ -1,22 +1,10 @@
 -- Sums to which entries are added.
-use Rattle.std.proofs.Common.{◌≡◌, ℕ, ◌+◌, ◌*◌, ◌/◌, ◌%◌, ◌<◌, ◌≤◌, refl, sym, ◌∙◌, ap, subst, arith, List, [], ◌∷◌, ◌++◌, length, set, length-set, div-add-mod'}
-use Rattle.std.proofs.lemmas.Bool.{and_from, eqb-true, eqb-false, eq-eqb}
-use Rattle.std.proofs.lemmas.Bool.Decides.{nat_tests}
-use Rattle.std.proofs.lemmas.Int.{ints, int_wrap-add_same, int_wrap_fits, SFits-int_wrap}
-use Rattle.std.proofs.lemmas.List.{get_or-set_same, get_or-set_other, map-append, take_more}
-use Rattle.std.proofs.lemmas.Grind.{flat_map-append}
-use Rattle.std.proofs.lemmas.Nat.{div-mul-add, mod-mul-add}
-use Rattle.std.specs.Int.{int_wrap, w64}
-use Rattle.std.specs.List.{flat_map, range_with_len}
-use Rattle.std.specs.Prelude.{ℤ, pos, ◌+ℤ◌, Bool, true, false, nat_eq, nat_lt, zero, suc, if◌then◌else◌, slice_index, slice_index_or, take}
-use Rattle.bindings.specs.Bound.{rising}
-use Rattle.mix_core.specs.declared.port.Entry.{Entry}
-use Rattle.mix_core.specs.declared.port.Kind.TheVariants.{Added}
-use Rattle.mix_core.specs.HistoryLaws.{at-append, total-append}
-use Rattle.mix_core.specs.Laid.{at, is_at, sum_of_samples, total}
-use Rattle.dmix_client.specs.Expansion.{frame_entries}
-use Rattle.dmix_client.specs.ExpansionLaws.{range_with_len-append}
-use Rattle.lab_check.specs.Sums.{IsSummed}
+use Rattle.lab_check.specs.Prelude.{ap, arith, div-add-mod', length, length-set, List, refl, set, subst, sym, take, ℕ, [], ◌%◌, ◌*◌, ◌++◌, ◌+◌, ◌/◌, ◌<◌, ◌∙◌}
+use Rattle.lab_check.specs.Prelude.{◌∷◌, ◌≡◌, ◌≤◌, and_from, eq-eqb, eqb-false, eqb-true, nat_tests, flat_map-append, int_wrap-add_same, int_wrap_fits, ints}
+use Rattle.lab_check.specs.Prelude.{SFits-int_wrap, get_or-set_other, get_or-set_same, map-append, take_more, div-mul-add, mod-mul-add, int_wrap, w64, flat_map}
+use Rattle.lab_check.specs.Prelude.{range_with_len, Bool, false, if◌then◌else◌, nat_eq, nat_lt, pos, slice_index, slice_index_or, suc, true, zero, ℤ, ◌+ℤ◌}
+use Rattle.lab_check.specs.Prelude.{rising, Entry, Added, at-append, total-append, at, is_at, sum_of_samples, total, frame_entries, range_with_len-append}
+use Rattle.lab_check.specs.Prelude.{IsSummed}
 use Rattle.lab_check.proofs.Covers.{other-frame}
 use Rattle.lab_check.proofs.LateMisses.{none-at}
 

@@ -1,23 +1,11 @@
 -- What is known of a report where no test fails.
-use Rattle.std.proofs.Common.{◌≡◌, ℕ, ◌+◌, ◌*◌, ◌<◌, ◌≤◌, mul-le-mul, refl, sym, ◌∙◌, ap, subst, arith, List, [], ◌∷◌, length, Option, Some, None}
-use Rattle.std.proofs.lemmas.Bool.{eqb-true}
-use Rattle.std.proofs.lemmas.Bool.Decides.{nat_tests}
-use Rattle.std.proofs.lemmas.List.Elements.{All-from_recursion}
-use Rattle.std.specs.List.{AllByRecursion, position}
-use Rattle.std.specs.Prelude.{All, ◌^◌, Bool, true, false, cond, not, ◌&&◌, nat_eq, nat_lt, nat_le, zero, suc, if◌then◌else◌, option_map, Result, Ok, Err}
-use Rattle.std.specs.List.{prefix_len}
-use Rattle.wav_io.specs.Sound.{Sound}
-use Rattle.lab_lines.specs.declared.report.Report.{Report}
-use Rattle.lab_lines.specs.declared.script.Script.{Script}
-use Rattle.lab_lines.specs.Limits.{IsScript}
-use Rattle.lab_lines.specs.Script.{first_frame, frames_played, phases_of}
+use Rattle.lab_check.specs.Prelude.{ap, arith, length, List, mul-le-mul, None, Option, refl, Some, subst, sym, ℕ, [], ◌*◌, ◌+◌, ◌<◌, ◌^◌, ◌∙◌, ◌∷◌, ◌≡◌, ◌≤◌}
+use Rattle.lab_check.specs.Prelude.{eqb-true, nat_tests, All-from_recursion, AllByRecursion, position, prefix_len, All, Bool, cond, Err, false, if◌then◌else◌}
+use Rattle.lab_check.specs.Prelude.{nat_eq, nat_le, nat_lt, not, Ok, option_map, Result, suc, true, zero, ◌&&◌, Sound, Report, Script, IsScript, first_frame}
+use Rattle.lab_check.specs.Prelude.{frames_played, phases_of, report_in_text, HasTestedRuns, HasTestedSegments, most_of_report, played_defect, report_defect}
+use Rattle.lab_check.specs.Prelude.{report_or_line, row_defect, segment_defect, tested, tested_report, is_right_row, first_row_line, first_segment_line}
+use Rattle.lab_check.specs.Prelude.{line_of_end, line_of_played, first_defect, reader_defect, readers_defect, is_right_segment}
 use Rattle.lab_report.specs.declared.error.ReportError.{ReportError}
-use Rattle.lab_report.specs.Reading.{report_in_text}
-use Rattle.lab_check.specs.Late.{is_right_row}
-use Rattle.lab_check.specs.Lines.{first_row_line, first_segment_line, line_of_end, line_of_played}
-use Rattle.lab_check.specs.Reads.{first_defect, reader_defect, readers_defect}
-use Rattle.lab_check.specs.Segments.{is_right_segment}
-use Rattle.lab_check.specs.Defects.{HasTestedRuns, HasTestedSegments, most_of_report, played_defect, report_defect, report_or_line, row_defect, segment_defect, tested, tested_report}
 
 -- two causes neither of which is there
 pub first-none : (a b : Option ℕ) → first_defect a b ≡ None → a ≡ None

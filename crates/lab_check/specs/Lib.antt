@@ -4,6 +4,7 @@ pub mod Defects
 pub mod Late
 pub mod Lines
 pub mod Pieces
+pub mod Prelude
 pub mod Reads
 pub mod Recordings
 pub mod Results

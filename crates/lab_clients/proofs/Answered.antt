@@ -1,29 +1,12 @@
 -- What a line of an open client is answered, as a run has it.
-use Rattle.std.proofs.Common.{◌≡◌, ℕ, List, [], ◌++◌, refl, sym, ◌∙◌, ap, subst}
-use Rattle.std.proofs.lemmas.List.{append-nil}
-use Rattle.std.specs.Prelude.{◌&&◌, not, Bool, true, false, Option, Some, if◌then◌else◌}
-use Rattle.snd_base.specs.declared.errors.PcmError.{PcmError}
-use Rattle.snd_base.specs.declared.errors.PcmError.TheVariants.{Stopped}
-use Rattle.snd_base.specs.declared.geometry.Geometry.{Geometry}
-use Rattle.snd_base.specs.declared.places.Segment.{Segment}
-use Rattle.snd_base.specs.Relations.{Composes}
+use Rattle.lab_clients.specs.Prelude.{ap, List, refl, subst, sym, ℕ, [], ◌++◌, ◌∙◌, ◌≡◌, append-nil, Bool, false, if◌then◌else◌, not, Option, Some, true, ◌&&◌}
+use Rattle.lab_clients.specs.Prelude.{PcmError, Stopped, Geometry, Segment, Composes, PlaybackStream, is_paused, ClientView, Sound, Op, Answer, Done, Failed}
+use Rattle.lab_clients.specs.Prelude.{Doing, ended_by, stretch_of, ClientLinesAreParts, ClientLinesWithoutCall, is_die, IsClientLine, with_member, IsAtPort}
+use Rattle.lab_clients.specs.Prelude.{ends_stretch, ExtendsStretches, HasClientAnswered, HasClientCalled, IsReady}
+use Rattle.lab_clients.proofs.StretchLaws.{ExtendsStretches-still}
 use Rattle.mix_core.specs.declared.gate.Gate as gates
 use Rattle.mix_core.specs.declared.port.MixPort as mixport
-use Rattle.wav_io.specs.Sound.{Sound}
-use Rattle.dmix_client.specs.declared.stream.PlaybackStream.{PlaybackStream}
-use Rattle.dmix_client.specs.Calls.{is_paused}
-use Rattle.dmix_client.specs.View.{ClientView}
-use Rattle.lab_lines.specs.declared.line.Op.{Op}
 use Rattle.lab_lines.specs.declared.line.Op.TheVariants as op
-use Rattle.lab_lines.specs.declared.row.Answer.{Answer}
-use Rattle.lab_lines.specs.declared.row.Answer.TheVariants.{Done, Failed}
-use Rattle.lab_run.specs.ActorPart.{Doing}
-use Rattle.lab_run.specs.Client.{ended_by, stretch_of}
-use Rattle.lab_run.specs.ClientAtPort.{ClientLinesAreParts, ClientLinesWithoutCall, IsClientLine, is_die}
-use Rattle.lab_run.specs.Members.{with_member}
-use Rattle.lab_run.specs.PortSteps.{IsAtPort}
-use Rattle.lab_clients.specs.Lines.{ExtendsStretches, HasClientAnswered, HasClientCalled, IsReady, ends_stretch}
-use Rattle.lab_clients.proofs.StretchLaws.{ExtendsStretches-still}
 
 -- a line that is refused and changes nothing ends no stretch
 no_end : (asked : Op) (e : PcmError) (c : PlaybackStream) → ended_by asked (Failed e) c c ≡ []

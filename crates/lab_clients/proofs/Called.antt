@@ -1,40 +1,19 @@
 -- The call that a line names, from what the client's call says.
-use Rattle.std.proofs.Common.{◌≡◌, ℕ, ◌≤◌, List, [], ◌++◌, refl, sym, ◌∙◌, ap, subst, length, inl, inr}
-use Rattle.std.proofs.lemmas.List.{append-nil}
-use Rattle.std.specs.Prelude.{◌⊎◌, ◌&&◌, not, Bool, true, false, ℤ, Result, Ok, Err, Option, Some, None, if◌then◌else◌}
-use Rattle.std.specs.List.{flat_map}
-use Rattle.snd_base.specs.declared.errors.PcmError.{PcmError}
-use Rattle.snd_base.specs.declared.errors.PcmError.TheVariants.{BadState}
-use Rattle.snd_base.specs.declared.places.Segment.{Segment}
-use Rattle.snd_base.specs.Relations.{Composes}
-use Rattle.mix_core.specs.declared.gate.Gate as gates
-use Rattle.mix_core.specs.declared.port.Entry.{Entry}
-use Rattle.mix_core.specs.declared.port.MixPort as mixport
-use Rattle.mix_core.specs.Laid.{AreAdds}
-use Rattle.wav_io.specs.Sound.{Sound}
-use Rattle.course.specs.AtPort.{LaysAt, LoadsAt, NoGet, TakesAt}
-use Rattle.course.specs.Course.{Course, ends}
-use Rattle.course.specs.CourseLaws.{Takes-map}
-use Rattle.pcm_states.specs.declared.states.State.{State}
-use Rattle.pcm_states.specs.declared.states.State.TheVariants.{Paused, Setup}
+use Rattle.lab_clients.specs.Prelude.{ap, inl, inr, length, List, refl, subst, sym, ℕ, [], ◌++◌, ◌∙◌, ◌≡◌, ◌≤◌, append-nil, flat_map, Bool, Err, false}
+use Rattle.lab_clients.specs.Prelude.{if◌then◌else◌, None, not, Ok, Option, Result, Some, true, ℤ, ◌&&◌, ◌⊎◌, PcmError, BadState, Segment, Composes, State}
+use Rattle.lab_clients.specs.Prelude.{Paused, Playback, is_moving, refusal_of, Entry, AreAdds, LaysAt, LoadsAt, NoGet, TakesAt, Course, ends, PlaybackStream}
+use Rattle.lab_clients.specs.Prelude.{after_drop, after_pause, after_prepare, Answered, base_of, in_state, is_paused, with_new_base, admitted_by, if_admitted}
+use Rattle.lab_clients.specs.Prelude.{AnySamples, IsBacked, Keeps, KeepsBack, segment_entries, IsBacked-back, IsBacked-grows, IsBacked-new, IsBacked-rebased}
+use Rattle.lab_clients.specs.Prelude.{ClientView, IsSoundClient, Sound, Op, Answer, Done, Failed, call_answer, done_answer, ended_by, frames_of, reported_error}
+use Rattle.lab_clients.specs.Prelude.{stretch_of, IsOffered, made_call, entries_by, ExtendsStretches, HasClientCalled, IsReady}
 use Rattle.pcm_states.specs.declared.calls.Call.{Call}
-use Rattle.pcm_states.specs.declared.calls.Call.TheVariants as call
-use Rattle.pcm_stream.specs.Status.{is_moving, refusal_of}
-use Rattle.pcm_stream.specs.declared.direction.Direction.TheVariants.{Playback}
-use Rattle.dmix_client.specs.declared.stream.PlaybackStream.{PlaybackStream}
-use Rattle.dmix_client.specs.Calls.{Answered, base_of, after_drop, in_state, is_paused, after_pause, after_prepare, with_new_base}
-use Rattle.dmix_client.specs.Course.{if_admitted, admitted_by}
-use Rattle.dmix_client.specs.Growth.{AnySamples, IsBacked, Keeps, KeepsBack, segment_entries}
-use Rattle.dmix_client.specs.StandingLaws.{IsBacked-back, IsBacked-grows, IsBacked-new, IsBacked-rebased}
-use Rattle.dmix_client.specs.View.{ClientView, IsSoundClient}
-use Rattle.lab_lines.specs.declared.line.Op.{Op}
-use Rattle.lab_lines.specs.declared.line.Op.TheVariants as op
-use Rattle.lab_lines.specs.declared.row.Answer.{Answer}
-use Rattle.lab_lines.specs.declared.row.Answer.TheVariants.{Done, Failed}
-use Rattle.lab_run.specs.Client.{call_answer, done_answer, ended_by, frames_of, reported_error, stretch_of}
-use Rattle.lab_run.specs.ClientAtPort.{IsOffered, made_call}
-use Rattle.lab_clients.specs.Lines.{ExtendsStretches, HasClientCalled, IsReady, entries_by}
+use Rattle.pcm_states.specs.declared.states.State.TheVariants.{Setup}
+use Rattle.course.specs.CourseLaws.{Takes-map}
 use Rattle.lab_clients.proofs.StretchLaws.{ExtendsStretches-back, ExtendsStretches-grows, ExtendsStretches-joined, ExtendsStretches-still, stretch-entries}
+use Rattle.mix_core.specs.declared.gate.Gate as gates
+use Rattle.mix_core.specs.declared.port.MixPort as mixport
+use Rattle.pcm_states.specs.declared.calls.Call.TheVariants as call
+use Rattle.lab_lines.specs.declared.line.Op.TheVariants as op
 
 module _ {S T : Type 0} (P : mixport.Ghosts S) (G : gates.Ghosts T) (composes : Composes P.laid)
     (held_laid : (p q : S) (xs es : List Entry) → AreAdds es → P.laid p q es → P.ends_in p xs → P.ends_in q (xs ++ es))

@@ -1,51 +1,25 @@
 -- A closing of a client makes of the clients of the lab what it makes of those of a run.
-use Rattle.std.specs.Prelude.{◌≡◌, ◌≢◌, ℕ, ◌<◌, pos, All, true, List, length, Option, Some, None, IfSome, IsSome, is_some, slice_index_or, slice_set}
-use Rattle.std.proofs.Common.{refl, sym, ◌∙◌, ap, subst, arith}
-use Rattle.std.proofs.lemmas.Int.{ints}
-use Rattle.std.proofs.lemmas.List.{append-nil}
-use Rattle.snd_base.specs.declared.errors.PcmError.TheVariants.{BadState}
-use Rattle.snd_base.specs.declared.geometry.Geometry.{Geometry}
-use Rattle.mix_core.specs.Laid.{standing}
-use Rattle.mix_core.specs.Marks.{high_frame}
-use Rattle.sum_table.specs.declared.seats.mix.MixSeat.{MixSeat}
+use Rattle.lab_clients.specs.Prelude.{ap, arith, IsSome, length, List, refl, subst, sym, ℕ, ◌∙◌, ◌≡◌, ints, append-nil, All, IfSome, is_some, None, Option, pos}
+use Rattle.lab_clients.specs.Prelude.{slice_index_or, slice_set, Some, true, ◌<◌, ◌≢◌, BadState, Geometry, standing, high_frame, MixSeat, OneRing, key_of}
+use Rattle.lab_clients.specs.Prelude.{member_of, ring_of, TableId, free_seats, last_of, PlaybackStream, Done, Failed, Row, Client, row_by, segments_of, Held}
+use Rattle.lab_clients.specs.Prelude.{held_of, held_without, with_member, AtPort, after_close, close_client, ended_client, new_port, no_client, Session, Stage}
+use Rattle.lab_clients.specs.Prelude.{with_row, CanClose, closed_held, Closes, HoldsPlace, IsHeldBy, IsOwnLast, IsSameCard, key_of_places, lobby_of}
+use Rattle.lab_clients.specs.Prelude.{ring_of_places, share_of, shares_of, AreHeld, AreHeld-closed, CanClose-held, Holding, Holdings, laid_list, laid_lists}
+use Rattle.lab_clients.specs.Prelude.{AreEach, AreEach-map, LabClient, LabClients, OpenClient, AreAfter, AreAt, AreIn, clients_of, holding_by, IsClientAt}
+use Rattle.lab_clients.specs.Prelude.{IsClientIn, IsSetUp, places_of, AreIn-exchanged, ChangesAt-with_holding, IsAsOften-exchanged, IsClientAt-holding}
+use Rattle.lab_clients.specs.Prelude.{IsClientAt-in_run, IsInRun, IsLaidWith, KeepsHolding, MovesLaid, Relation, with_holding, worth_all-with, client_by}
+use Rattle.lab_clients.specs.Prelude.{client_in, ended_of, is_open, IsAt, IsAtBy, number_of, open_of, seen_by, closed_client, HasClosed, IsHigh, IsAt-closed}
+use Rattle.lab_clients.specs.Prelude.{IsOwnLast-closed, LastsAreOwn, IsOpenAt, stream_of, AreAtStage, AreOfRun, client_among, clients_but, held_but, IsReported}
+use Rattle.lab_clients.specs.Prelude.{laid_for, worth_left, worth_of, sound_at}
+use Rattle.dshare.specs.Shared.{AreOfCard}
 use Rattle.sum_table.specs.declared.view.Key.{Key}
-use Rattle.sum_table.specs.Joins.{OneRing}
-use Rattle.sum_table.specs.Seats.{TableId, key_of, member_of, ring_of}
-use Rattle.lobby.specs.Lobbies.{free_seats}
-use Rattle.lobby.specs.Seats.{last_of}
-use Rattle.dmix_client.specs.declared.stream.PlaybackStream.{PlaybackStream}
+use Rattle.lab_places.specs.declared.places.Places.{Places}
+use Rattle.lab_places.specs.HeldLaws.{HoldsPlace-one}
+use Rattle.lab_clients.proofs.OpeningLaws.{AreAfter-still, IsClientAt-number, is_some-own, none-own, own-number}
+use Rattle.lab_clients.proofs.ReportedLaws.{IsApart, IsPlacedFor-at, IsReported-closed}
 use Rattle.pcm_states.specs.declared.states.State.TheVariants as state
 use Rattle.lab_lines.specs.declared.line.Actor.TheVariants as actor
 use Rattle.lab_lines.specs.declared.line.Op.TheVariants as op
-use Rattle.lab_lines.specs.declared.row.Answer.TheVariants.{Done, Failed}
-use Rattle.lab_lines.specs.declared.row.Row.{Row}
-use Rattle.lab_run.specs.Client.{Client, row_by, segments_of}
-use Rattle.lab_run.specs.Items.{Held, held_of, held_without}
-use Rattle.lab_run.specs.Members.{with_member}
-use Rattle.lab_run.specs.Rules.{AtPort}
-use Rattle.lab_run.specs.Stage.{Session, Stage, after_close, close_client, ended_client, new_port, no_client, with_row}
-use Rattle.lab_places.specs.declared.places.Places.{Places}
-use Rattle.dshare.specs.Shared.{AreOfCard}
-use Rattle.lab_places.specs.Held.{CanClose, Closes, HoldsPlace, IsHeldBy, IsOwnLast, IsSameCard, closed_held, key_of_places, lobby_of, ring_of_places, share_of, shares_of}
-use Rattle.lab_places.specs.HeldLaws.{HoldsPlace-one}
-use Rattle.lab_places.specs.Holdings.{AreHeld, AreHeld-closed, CanClose-held, Holding, Holdings}
-use Rattle.lab_places.specs.Laid.{laid_list, laid_lists}
-use Rattle.lab_actors.specs.Walks.{AreEach, AreEach-map}
-use Rattle.lab_clients.specs.declared.client.LabClient.{LabClient}
-use Rattle.lab_clients.specs.declared.open_client.OpenClient.{OpenClient}
-use Rattle.lab_clients.specs.OnePhase.{LastsAreOwn}
-use Rattle.lab_clients.specs.OneClient.{IsAt, IsAtBy, client_by, client_in, ended_of, is_open, number_of, open_of, seen_by}
-use Rattle.lab_clients.specs.OpenClient.{IsOpenAt, stream_of}
-use Rattle.lab_clients.specs.OneOpeningLaws.{IsAt-closed, IsOwnLast-closed}
-use Rattle.lab_clients.specs.OneOpening.{HasClosed, IsHigh, closed_client}
-use Rattle.lab_clients.specs.declared.clients.LabClients.{LabClients}
-use Rattle.lab_clients.specs.AtStage.{AreAfter, AreAt, AreIn, IsClientAt, IsClientIn, IsSetUp, clients_of, holding_by, places_of}
-use Rattle.lab_clients.specs.Exchanged.{AreIn-exchanged, ChangesAt-with_holding, IsAsOften-exchanged, IsClientAt-holding, IsClientAt-in_run, IsInRun, IsLaidWith, KeepsHolding, MovesLaid, Relation, with_holding, worth_all-with}
-use Rattle.lab_clients.specs.Opening.{AreAtStage, AreOfRun, client_among, clients_but, held_but}
-use Rattle.lab_clients.specs.Placed.{IsReported, laid_for, worth_left, worth_of}
-use Rattle.lab_clients.specs.Steps.{sound_at}
-use Rattle.lab_clients.proofs.OpeningLaws.{AreAfter-still, IsClientAt-number, is_some-own, none-own, own-number}
-use Rattle.lab_clients.proofs.ReportedLaws.{IsApart, IsPlacedFor-at, IsReported-closed}
 
 -- a closing at the places, whichever client it is
 abbrev pub ClosesAny : Places → List ℕ → ℕ → MixSeat → Places → Type 0

@@ -1,50 +1,24 @@
 -- The clients at the beginning of a run, and at its end.
-use Rattle.std.specs.Prelude.{◌≡◌, ℕ, zero, suc, ◌+◌, ◌<◌, ◌≤◌, ℤ, pos, true, false, List, [], ◌∷◌, ◌++◌, length, map, is_none, is_some, Option, Some, None, option_map, replicate, slice_index_or, slice_set}
-use Rattle.std.specs.List.{AllByRecursion, flat_map}
-use Rattle.std.proofs.Common.{refl, sym, ◌∙◌, ap, subst, take, arith, inl, inr}
-use Rattle.std.proofs.lemmas.Bool.{cases_eq, cases_lt, false≢true}
-use Rattle.std.proofs.lemmas.Bool.Decides.{nat_tests}
-use Rattle.std.proofs.lemmas.Int.{ints}
-use Rattle.std.proofs.lemmas.List.{append-nil, get_or-map, length-map, length-set}
+use Rattle.lab_clients.specs.Prelude.{ap, arith, inl, inr, length, List, map, refl, subst, sym, take, ℕ, [], ◌++◌, ◌+◌, ◌∙◌, ◌∷◌, ◌≡◌, ◌≤◌, cases_eq, cases_lt}
+use Rattle.lab_clients.specs.Prelude.{false≢true, nat_tests, ints, append-nil, get_or-map, length-map, length-set, none-some, same_Some, AllByRecursion}
+use Rattle.lab_clients.specs.Prelude.{flat_map, false, is_none, is_some, None, Option, option_map, pos, replicate, slice_index_or, slice_set, Some, suc, true}
+use Rattle.lab_clients.specs.Prelude.{zero, ℤ, ◌<◌, Geometry, Entry, total-append, standing, total, high_frame, MixSeat, key_of, places_of_seat, TableId}
+use Rattle.lab_clients.specs.Prelude.{view_of, free_seats, laid_by, laid_by_all, AreFree, seat_at, PlaybackStream, Share, Client, present_of, segments_of, Held}
+use Rattle.lab_clients.specs.Prelude.{held_of, held_without, AtPort, ended_client, first_stage, new_port, no_client, Session, Setup, AreAtPlaces, HoldsNone}
+use Rattle.lab_clients.specs.Prelude.{IsHeldBy, key_of_places, lobby_of, new_held, ring_of_places, share_of, shares_of, AreHeld-new, Holding, Holdings}
+use Rattle.lab_clients.specs.Prelude.{IsUnlaid, laid_list, laid_lists, AreEach, LabClient, LabClients, OpenClient, AreAt, clients_of, holding_by, IsClientAt}
+use Rattle.lab_clients.specs.Prelude.{IsNewCardOf, IsSetUp, places_of, AreNewClients, HasEnded, IsNewClient, IsPlacedAll, segments_by, all_segments-set}
+use Rattle.lab_clients.specs.Prelude.{client_by, client_in, ended_of, IsAt, number_of, open_of, IsAt-closed, AreOfRun, client_among, clients_but, held_but}
+use Rattle.lab_clients.specs.Prelude.{IsClosedAt, open_at, client_segments, IsClientPlaced, IsPlacedBy, IsPlacedFor, IsReported, laid_for, open_lists}
+use Rattle.lab_clients.specs.Prelude.{place_segments, SeatSegment, worth_all, worth_left, worth_of, worth_all-new, worth_at, worth_of-append, worth_of-worth_at}
+use Rattle.lab_clients.specs.Prelude.{sound_at}
 use Rattle.std.proofs.lemmas.List.Elements.{All-from_recursion}
-use Rattle.std.proofs.lemmas.Option.{none-some, same_Some}
-use Rattle.snd_base.specs.Places as rings
-use Rattle.snd_base.specs.declared.geometry.Geometry.{Geometry}
-use Rattle.mix_core.specs.declared.port.Entry.{Entry}
-use Rattle.mix_core.specs.HistoryLaws.{total-append}
-use Rattle.mix_core.specs.Laid.{standing, total}
-use Rattle.mix_core.specs.Marks.{high_frame}
-use Rattle.sum_table.specs.declared.seats.mix.MixSeat.{MixSeat}
 use Rattle.sum_table.specs.declared.view.Key.{Key}
-use Rattle.sum_table.specs.Seats.{TableId, key_of, places_of_seat, view_of}
-use Rattle.lobby.specs.Lobbies.{free_seats, laid_by_all, laid_by}
-use Rattle.lobby.specs.Seats.{AreFree, seat_at}
-use Rattle.dmix_client.specs.declared.stream.PlaybackStream.{PlaybackStream}
-use Rattle.lab_lines.specs.declared.script.Share.{Share}
 use Rattle.lab_lines.specs.Script.{first_frame}
-use Rattle.lab_run.specs.Client.{Client, present_of, segments_of}
-use Rattle.lab_run.specs.Items.{Held, held_of, held_without}
 use Rattle.lab_run.specs.LabRun.{all_segments, entries_of, with_numbers}
 use Rattle.lab_run.specs.Places.{Place, is_free, is_held_by, left_place}
-use Rattle.lab_run.specs.Rules.{AtPort}
-use Rattle.lab_run.specs.Stage.{Session, Setup, ended_client, first_stage, new_port, no_client}
-use Rattle.lab_places.specs.Held.{AreAtPlaces, HoldsNone, IsHeldBy, key_of_places, lobby_of, new_held, ring_of_places, share_of, shares_of}
-use Rattle.lab_places.specs.Holdings.{AreHeld-new, Holding, Holdings}
-use Rattle.lab_places.specs.Laid.{IsUnlaid, laid_list, laid_lists}
-use Rattle.lab_actors.specs.Walks.{AreEach}
-use Rattle.lab_clients.specs.declared.client.LabClient.{LabClient}
-use Rattle.lab_clients.specs.declared.open_client.OpenClient.{OpenClient}
-use Rattle.lab_clients.specs.OneClient.{IsAt, client_by, client_in, ended_of, number_of, open_of}
-use Rattle.lab_clients.specs.OneOpeningLaws.{IsAt-closed}
-use Rattle.lab_clients.specs.declared.clients.LabClients.{LabClients}
-use Rattle.lab_clients.specs.AtStage.{AreAt, IsClientAt, IsNewCardOf, IsSetUp, clients_of, holding_by, places_of}
-use Rattle.lab_clients.specs.End.{AreNewClients, HasEnded, IsNewClient, IsPlacedAll, segments_by}
-use Rattle.lab_clients.specs.Exchanged.{all_segments-set}
-use Rattle.lab_clients.specs.Opening.{AreOfRun, IsClosedAt, client_among, clients_but, held_but, open_at}
-use Rattle.lab_clients.specs.Placed.{IsClientPlaced, IsPlacedBy, IsPlacedFor, IsReported, SeatSegment, client_segments, laid_for, open_lists, place_segments, worth_all, worth_left, worth_of}
-use Rattle.lab_clients.specs.PlacedLaws.{worth_all-new, worth_at, worth_of-append, worth_of-worth_at}
-use Rattle.lab_clients.specs.Steps.{sound_at}
 use Rattle.lab_clients.proofs.OpenAt.{open_at-past}
+use Rattle.snd_base.specs.Places as rings
 
 -- ---- the beginning
 

@@ -1,27 +1,19 @@
 -- How many frames a client has accepted after a call: at most those that it was offered are more.
-use Rattle.std.proofs.Common.{◌≡◌, ℕ, ◌≤◌, ◌+◌, refl, subst, arith, zero, suc}
-use Rattle.std.proofs.lemmas.Bool.Decides.{nat_tests}
-use Rattle.std.specs.Prelude.{◌-◌, Bool, true, false, ℤ, List, length, Some, None, Result, Ok, Err, if◌then◌else◌, min, nat_eq, ⊤}
-use Rattle.snd_base.specs.declared.errors.PcmError.{PcmError}
+use Rattle.lab_clients.specs.Prelude.{arith, length, List, refl, subst, ℕ, ◌+◌, ◌≡◌, ◌≤◌, nat_tests, Bool, Err, false, if◌then◌else◌, min, nat_eq, None, Ok}
+use Rattle.lab_clients.specs.Prelude.{Result, Some, suc, true, zero, ℤ, ⊤, ◌-◌, PcmError, State, Prepared, Running, Course, ends, Gives, Gives-any}
+use Rattle.lab_clients.specs.Prelude.{Gives-behind, Gives-map, Gives-then, PlaybackStream, Answered, committed_by, found_at, going_on, going_on_by, is_running}
+use Rattle.lab_clients.specs.Prelude.{is_stop, late_at, stopped_in, taken_of, with_number, with_outcome, commits, drain_course, if_admitted, number_course}
+use Rattle.lab_clients.specs.Prelude.{pause_course, start_course, sync_course, write_course, IsSoundClient, frames_in}
 use Rattle.snd_base.specs.declared.places.Cursor.{Cursor}
+use Rattle.pcm_states.specs.declared.calls.Outcome.{Outcome}
+use Rattle.pcm_states.specs.Table.{next_of}
 use Rattle.mix_core.specs.declared.port.Ended.{Ended}
 use Rattle.mix_core.specs.declared.port.Ended.TheVariants.{Whole, Late, Stopped}
-use Rattle.pcm_states.specs.declared.calls.Call.TheVariants as call
-use Rattle.pcm_states.specs.declared.calls.Outcome.{Outcome}
-use Rattle.pcm_states.specs.declared.states.State.{State}
-use Rattle.pcm_states.specs.declared.states.State.TheVariants.{Prepared, Running}
-use Rattle.pcm_states.specs.Table.{next_of}
-use Rattle.course.specs.Course.{Course, ends}
-use Rattle.course.specs.Gives.{Gives, Gives-any, Gives-behind, Gives-map, Gives-then}
 use Rattle.dmix_client.specs.declared.commit.Commit.{Commit}
-use Rattle.dmix_client.specs.declared.stream.PlaybackStream.{PlaybackStream}
-use Rattle.dmix_client.specs.Calls.{Answered, committed_by, found_at, going_on, going_on_by, is_running, is_stop, late_at, stopped_in, taken_of, with_number, with_outcome}
-use Rattle.dmix_client.specs.Course.{commits, drain_course, if_admitted, number_course, pause_course, start_course, sync_course, write_course}
 use Rattle.dmix_client.specs.EachCall.{CallLeaves, CountLeaves, WriteLeaves, drain-done, if_admitted-gives, number-counted, pause-done, resume-done, rewindable-counted, start-done, sync-done, write-counted}
 use Rattle.dmix_client.specs.Rewind.{back_of, back_on, checks, last_channel, last_laid, rewind_left, rewind_course, rewind_on, rewindable_course, rewindable_of, rewinds, after_rewind, take_frames, taken_back, takes_back, without_frames}
-use Rattle.dmix_client.specs.View.{IsSoundClient}
-use Rattle.dmix_client.specs.Writes.{frames_in}
 use Rattle.lab_run.proofs.CallParts.{running-moves}
+use Rattle.pcm_states.specs.declared.calls.Call.TheVariants as call
 
 -- a client after a call has accepted at most so many frames
 pub record IsFed {X : Type 0} (limit : ℕ) (done : PlaybackStream × X) : Type 0 where

@@ -1,9 +1,5 @@
 -- A lab's clients are lent to a step as a slice: what the step left of the slice is what the lab has then.
-use Rattle.std.specs.Prelude.{◌≡◌, ℕ, ◌++◌, List, drop, length, take}
-use Rattle.std.proofs.Common.{arith, subst, sym, ◌∙◌}
-use Rattle.std.proofs.lemmas.List.{take-append-le, take_all}
-use Rattle.lab_actors.specs.Walks.{AreEach}
-use Rattle.lab_clients.specs.declared.client.LabClient.{LabClient}
+use Rattle.lab_clients.specs.Prelude.{arith, drop, length, List, subst, sym, take, ℕ, ◌++◌, ◌∙◌, ◌≡◌, take-append-le, take_all, AreEach, LabClient}
 
 pub AreEach-lent : (R : ℕ → LabClient → LabClient → Type 0) (clients lent after : List LabClient) (count : ℕ) → lent ≡ clients → length after ≡ count → AreEach R 0 lent after
     → AreEach R 0 clients (take count (after ++ drop (length after) clients))

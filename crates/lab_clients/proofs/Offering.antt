@@ -1,14 +1,8 @@
 -- What a write offers of a client's file.
-use Rattle.std.proofs.Common.{◌≡◌, ℕ, ◌<◌, ◌≤◌, ◌+◌, ◌*◌, ◌%◌, List, sym, ◌∙◌, ap, subst, arith, length, take, drop, get_or}
+use Rattle.lab_clients.specs.Prelude.{ap, arith, drop, get_or, length, List, subst, sym, take, ℕ, ◌%◌, ◌*◌, ◌+◌, ◌∙◌, ◌≡◌, ◌≤◌, nat_tests, get_or-drop}
+use Rattle.lab_clients.specs.Prelude.{get_or-take, length-drop, length-take, min, pos, ℤ, ◌-◌, ◌/◌, ◌<◌, ◌^◌, PlaybackStream, Follows, frames_in, IsOffer}
+use Rattle.lab_clients.specs.Prelude.{Sound, frames_of}
 use Rattle.std.proofs.Math.Nat.{div-mul-le_self, mul-div_cancel, mul-le-mul_right, mul-mod_left}
-use Rattle.std.proofs.lemmas.Bool.Decides.{nat_tests}
-use Rattle.std.proofs.lemmas.List.{get_or-drop, get_or-take, length-drop, length-take}
-use Rattle.std.specs.Prelude.{ℤ, pos, ◌-◌, ◌/◌, ◌^◌, min}
-use Rattle.dmix_client.specs.declared.stream.PlaybackStream.{PlaybackStream}
-use Rattle.dmix_client.specs.Growth.{Follows}
-use Rattle.dmix_client.specs.Writes.{IsOffer, frames_in}
-use Rattle.wav_io.specs.Sound.{Sound}
-use Rattle.lab_run.specs.Client.{frames_of}
 
 -- a write offers the next frames of a client's file
 pub record Offers (wav : Sound) (c : PlaybackStream) (offer : List ℤ) (n : ℕ) : Type 0 where

@@ -1,10 +1,6 @@
 -- The open client of a number, in a list of clients.
-use Rattle.std.specs.Prelude.{◌≡◌, ◌≢◌, ℕ, zero, suc, ◌<◌, ◌≤◌, true, false, List, [], ◌∷◌, length, is_some, IsSome, Option, Some, None, slice_index_or, slice_set}
-use Rattle.std.proofs.Common.{refl, sym, ◌∙◌, ap, subst, arith, length-set}
-use Rattle.lab_clients.specs.declared.client.LabClient.{LabClient}
-use Rattle.lab_clients.specs.declared.open_client.OpenClient.{OpenClient}
-use Rattle.lab_clients.specs.OneClient.{is_open, open_of}
-use Rattle.lab_clients.specs.Opening.{IsClosedAt, open_at}
+use Rattle.lab_clients.specs.Prelude.{ap, arith, IsSome, length, List, refl, subst, sym, ℕ, [], ◌∙◌, ◌∷◌, ◌≡◌, ◌≤◌, length-set, false, is_some, None, Option}
+use Rattle.lab_clients.specs.Prelude.{slice_index_or, slice_set, Some, suc, true, zero, ◌<◌, ◌≢◌, LabClient, OpenClient, is_open, open_of, IsClosedAt, open_at}
 
 -- the open client of a number is that in the list
 pub open_at-index : (ds : List LabClient) (n : ℕ) (d : LabClient) → n < length ds → open_at ds n ≡ open_of (slice_index_or ds n d)

@@ -1,46 +1,21 @@
 -- An opening of a client makes of the clients of the lab what it makes of those of a run.
-use Rattle.std.specs.Prelude.{◌≡◌, ℕ, ◌<◌, pos, true, List, [], ◌++◌, length, Option, Some, None, IsSomeAnd, is_some, Result, Ok, Err, slice_index_or, slice_set}
-use Rattle.std.proofs.Common.{refl, sym, ◌∙◌, ap, subst, arith}
-use Rattle.std.proofs.lemmas.Bool.{false≢true}
-use Rattle.std.proofs.lemmas.Int.{ints}
-use Rattle.snd_base.specs.declared.errors.PcmError.{PcmError}
-use Rattle.snd_base.specs.declared.errors.PcmError.TheVariants.{BadState, Invalid}
-use Rattle.snd_base.specs.declared.errors.Why.TheVariants as why
-use Rattle.snd_base.specs.declared.geometry.Geometry.{Geometry}
-use Rattle.mix_core.specs.Laid.{standing}
-use Rattle.sum_table.specs.declared.seats.mix.MixSeat.{MixSeat}
+use Rattle.lab_clients.specs.Prelude.{ap, arith, length, List, refl, subst, sym, ℕ, [], ◌++◌, ◌∙◌, ◌≡◌, false≢true, ints, Err, is_some, IsSomeAnd, None, Ok}
+use Rattle.lab_clients.specs.Prelude.{Option, pos, Result, slice_index_or, slice_set, Some, true, ◌<◌, PcmError, BadState, Invalid, Geometry, standing, MixSeat}
+use Rattle.lab_clients.specs.Prelude.{member_of, TableId, free_seats, last_of, PlaybackStream, Answer, Done, Failed, Row, Share, Client, present_of, row_by}
+use Rattle.lab_clients.specs.Prelude.{segments_of, stretch_of, Held, held_of, AtPort, after_open, client_at, new_port, no_client, open_client, open_client_with}
+use Rattle.lab_clients.specs.Prelude.{opened_client, renewed_port, Session, Setup, Stage, with_row, IsGiven, IsSameCard, key_of_places, lobby_of, Opens}
+use Rattle.lab_clients.specs.Prelude.{ring_of_places, share_of, AreHeld, AreHeld-opened, AreHeld-refused, Holding, Holdings, laid_list, laid_lists, AreEach-at}
+use Rattle.lab_clients.specs.Prelude.{LabClient, LabClients, OpenClient, AreAfter, AreAt, clients_of, holding_by, IsClientAt, IsSetUp, places_of}
+use Rattle.lab_clients.specs.Prelude.{AreIn-exchanged, AreIn-places, ChangesAt-with_holding, IsAsOften, IsAsOften-exchanged, IsClientAt-holding, IsLaidAlike}
+use Rattle.lab_clients.specs.Prelude.{IsLaidWith, MovesLaid, with_holding, worth_all-with, client_by, client_in, ended_of, is_open, IsAt, number_of, open_of}
+use Rattle.lab_clients.specs.Prelude.{rows_by, HasOpened, IsNewlyOpen, client-opened, IsAt-opened, new_client, AreAtStage, AreBeforeOpening, client_among}
+use Rattle.lab_clients.specs.Prelude.{IsReported, laid_for, worth_left, worth_of, sound_at}
 use Rattle.sum_table.specs.declared.view.Key.{Key}
-use Rattle.sum_table.specs.Seats.{TableId, member_of}
-use Rattle.lobby.specs.Lobbies.{free_seats}
-use Rattle.lobby.specs.Seats.{last_of}
-use Rattle.dmix_client.specs.declared.stream.PlaybackStream.{PlaybackStream}
+use Rattle.lab_places.specs.StageLaws.{came_of, open_client_with-done, open_client_with-refused, with_held, with_opened}
+use Rattle.lab_clients.proofs.ReportedLaws.{IsPlacedFor-at, IsReported-opened}
+use Rattle.snd_base.specs.declared.errors.Why.TheVariants as why
 use Rattle.lab_lines.specs.declared.line.Actor.TheVariants as actor
 use Rattle.lab_lines.specs.declared.line.Op.TheVariants as op
-use Rattle.lab_lines.specs.declared.script.Share.{Share}
-use Rattle.lab_lines.specs.declared.row.Answer.{Answer}
-use Rattle.lab_lines.specs.declared.row.Answer.TheVariants.{Done, Failed}
-use Rattle.lab_lines.specs.declared.row.Row.{Row}
-use Rattle.lab_run.specs.Client.{Client, present_of, row_by, segments_of, stretch_of}
-use Rattle.lab_run.specs.Items.{Held, held_of}
-use Rattle.lab_run.specs.Rules.{AtPort}
-use Rattle.lab_run.specs.Stage.{Session, Setup, Stage, after_open, client_at, new_port, no_client, open_client, open_client_with, opened_client, renewed_port, with_row}
-use Rattle.lab_places.specs.Held.{IsGiven, IsSameCard, Opens, key_of_places, lobby_of, ring_of_places, share_of}
-use Rattle.lab_places.specs.Holdings.{AreHeld, AreHeld-opened, AreHeld-refused, Holding, Holdings}
-use Rattle.lab_places.specs.Laid.{laid_list, laid_lists}
-use Rattle.lab_places.specs.StageLaws.{came_of, open_client_with-done, open_client_with-refused, with_held, with_opened}
-use Rattle.lab_actors.specs.Walks.{AreEach-at}
-use Rattle.lab_clients.specs.declared.client.LabClient.{LabClient}
-use Rattle.lab_clients.specs.declared.open_client.OpenClient.{OpenClient}
-use Rattle.lab_clients.specs.OneClient.{IsAt, client_by, client_in, ended_of, is_open, number_of, open_of, rows_by}
-use Rattle.lab_clients.specs.OneOpeningLaws.{IsAt-opened, client-opened, new_client}
-use Rattle.lab_clients.specs.OneOpening.{HasOpened, IsNewlyOpen}
-use Rattle.lab_clients.specs.declared.clients.LabClients.{LabClients}
-use Rattle.lab_clients.specs.AtStage.{AreAfter, AreAt, IsClientAt, IsSetUp, clients_of, holding_by, places_of}
-use Rattle.lab_clients.specs.Exchanged.{AreIn-exchanged, AreIn-places, ChangesAt-with_holding, IsAsOften, IsAsOften-exchanged, IsClientAt-holding, IsLaidAlike, IsLaidWith, MovesLaid, with_holding, worth_all-with}
-use Rattle.lab_clients.specs.Opening.{AreAtStage, AreBeforeOpening, client_among}
-use Rattle.lab_clients.specs.Placed.{IsReported, laid_for, worth_left, worth_of}
-use Rattle.lab_clients.specs.Steps.{sound_at}
-use Rattle.lab_clients.proofs.ReportedLaws.{IsPlacedFor-at, IsReported-opened}
 
 -- ---- the client of a number
 

@@ -1,13 +1,7 @@
 -- Valid software parameters aren't refused.
-use Rattle.std.specs.Prelude.{ℕ, Err}
-use Rattle.std.proofs.Common.{arith}
-use Rattle.snd_base.specs.declared.errors.PcmError.{PcmError}
-use Rattle.snd_base.specs.declared.errors.PcmError.TheVariants.{Invalid}
+use Rattle.lab_clients.specs.Prelude.{arith, ℕ, Err, PcmError, Invalid, SwParams, IsValid, IsVerdict, Checks}
 use Rattle.snd_base.specs.declared.errors.Why.{Why}
 use Rattle.snd_base.specs.declared.errors.Why.TheVariants.{AvailMinZero, StartRange, StopRange}
-use Rattle.sw_limits.specs.declared.params.SwParams.{SwParams}
-use Rattle.sw_limits.specs.Params.{IsValid, IsVerdict}
-use Rattle.pcm_stream.specs.Setup.{Checks}
 
 valid-why : (why : Why) (p : SwParams) (b : ℕ) → IsValid p b → IsVerdict (Err why) p b → ⊥
 valid-why AvailMinZero p b valid zero_is = let low = valid.avail_min in omega (arith, low, zero_is)

@@ -1,24 +1,10 @@
 -- A client's lines, one after the other.
-use Rattle.std.proofs.Common.{◌≡◌, ℕ, ◌+◌, List, [], ◌∷◌, ◌++◌, refl, sym, ◌∙◌, ap, subst, append_assoc}
-use Rattle.std.proofs.lemmas.List.{append-nil}
-use Rattle.std.specs.Prelude.{Option, Some}
-use Rattle.snd_base.specs.declared.geometry.Geometry.{Geometry}
-use Rattle.snd_base.specs.declared.places.Segment.{Segment}
-use Rattle.snd_base.specs.Relations.{Composes}
-use Rattle.mix_core.specs.declared.port.MixPort as mixport
-use Rattle.dmix_client.specs.View.{ClientView}
-use Rattle.wav_io.specs.Sound.{Sound}
-use Rattle.lab_lines.specs.declared.line.Op.{Op}
-use Rattle.lab_lines.specs.declared.row.Row.{Row}
-use Rattle.lab_run.specs.ActorPart.{Doing, PartsGrow}
-use Rattle.lab_run.specs.Client.{Client, client_kind, row_by}
-use Rattle.lab_run.specs.ClientAtPort.{IsClientLine}
-use Rattle.lab_run.specs.Members.{with_member}
-use Rattle.lab_run.specs.PortSteps.{IsAtPort}
+use Rattle.lab_clients.specs.Prelude.{ap, append_assoc, List, refl, subst, sym, ℕ, [], ◌++◌, ◌+◌, ◌∙◌, ◌∷◌, ◌≡◌, append-nil, Option, Some, Geometry, Segment}
+use Rattle.lab_clients.specs.Prelude.{Composes, ClientView, Sound, Op, Row, Doing, PartsGrow, Client, client_kind, row_by, IsClientLine, with_member, IsAtPort}
+use Rattle.lab_clients.specs.Prelude.{ExtendsStretches, client_of, ClientLine, ClientPart, HasClientDone}
 use Rattle.lab_clients.specs.declared.lines.ClientActor.{ClientActor}
-use Rattle.lab_clients.specs.Lines.{ExtendsStretches}
-use Rattle.lab_clients.specs.Parts.{ClientLine, ClientPart, HasClientDone, client_of}
 use Rattle.lab_clients.proofs.StretchLaws.{ExtendsStretches-joined, ExtendsStretches-still}
+use Rattle.mix_core.specs.declared.port.MixPort as mixport
 
 module _ {S T : Type 0} (P : mixport.Ghosts S) (composes : Composes P.laid) (left : T → Option ℕ) (by_gate at_gate : T → ℕ) where
   pub ClientPart-none : (s : S × T) (phase : ℕ) (wav : Sound) (a : ClientActor) → ClientPart P left by_gate at_gate s s phase wav a a []

@@ -1,28 +1,11 @@
 -- A client that is reaped is one that a run reaps.
-use Rattle.std.specs.Prelude.{◌≡◌, ℕ, ◌+◌, ◌<◌, ◌≤◌, Bool, true, false, List, length, map, Option, Some, None, IfSome, IsSome, slice_index_or, slice_set}
-use Rattle.std.proofs.Common.{refl, sym, ◌∙◌, ap, subst, arith}
-use Rattle.std.proofs.lemmas.Bool.{false≢true}
-use Rattle.std.proofs.lemmas.List.{set-get_or}
-use Rattle.sum_table.specs.declared.seats.mix.MixSeat.{MixSeat}
-use Rattle.sum_table.specs.Joins.{OneRing}
-use Rattle.sum_table.specs.Seats.{key_of, ring_of}
-use Rattle.lobby.specs.Lobbies.{free_seats}
-use Rattle.lab_run.specs.Client.{Client}
-use Rattle.lab_run.specs.Items.{Held, held_after, is_stopped, reaped_client, reaped_client_if, reaped_one}
-use Rattle.lab_run.specs.Rules.{AtPort}
-use Rattle.lab_run.specs.Stage.{Session, no_client}
-use Rattle.lab_places.specs.Held.{CanClose, IsSameCard, key_of_places, lobby_of, ring_of_places}
-use Rattle.lab_actors.specs.Walks.{AreEach-at, AreEach-length}
-use Rattle.lab_clients.specs.declared.client.LabClient.{LabClient}
-use Rattle.lab_clients.specs.declared.open_client.OpenClient.{OpenClient}
-use Rattle.lab_clients.specs.OnePhase.{LastsAreOwn}
-use Rattle.lab_clients.specs.OneClient.{client_by, client_in, ended_of, open_of}
-use Rattle.lab_clients.specs.OneOpening.{HasClosed}
-use Rattle.lab_clients.specs.declared.clients.LabClients.{LabClients}
-use Rattle.lab_clients.specs.AtStage.{AreAt, AreDone, IsClientDone, clients_of, places_of}
-use Rattle.lab_clients.specs.Exchanged.{IsLaidWith}
-use Rattle.lab_clients.specs.Opening.{client_among, clients_but, held_but}
-use Rattle.lab_clients.specs.Reaped.{AreAt-reaped, IsClientDone-holding, IsClientDone-in_run, clients_reaped, held_reaped, held_to, held_to-all, held_to-next, reaped_to, reaped_to-all, reaped_to-next}
+use Rattle.lab_clients.specs.Prelude.{ap, arith, IsSome, length, List, map, refl, subst, sym, ℕ, ◌+◌, ◌∙◌, ◌≡◌, ◌≤◌, false≢true, set-get_or, Bool, false}
+use Rattle.lab_clients.specs.Prelude.{IfSome, None, Option, slice_index_or, slice_set, Some, true, ◌<◌, MixSeat, OneRing, key_of, ring_of, free_seats, Client}
+use Rattle.lab_clients.specs.Prelude.{Held, held_after, is_stopped, reaped_client, reaped_client_if, reaped_one, AtPort, no_client, Session, CanClose}
+use Rattle.lab_clients.specs.Prelude.{IsSameCard, key_of_places, lobby_of, ring_of_places, AreEach-at, AreEach-length, LabClient, LabClients, OpenClient, AreAt}
+use Rattle.lab_clients.specs.Prelude.{AreDone, clients_of, IsClientDone, places_of, IsLaidWith, client_by, client_in, ended_of, open_of, HasClosed, LastsAreOwn}
+use Rattle.lab_clients.specs.Prelude.{client_among, clients_but, held_but, AreAt-reaped, clients_reaped, held_reaped, held_to, held_to-all, held_to-next}
+use Rattle.lab_clients.specs.Prelude.{IsClientDone-holding, IsClientDone-in_run, reaped_to, reaped_to-all, reaped_to-next}
 use Rattle.lab_clients.proofs.ClosingLaws.{AreIn-closed, CanClose-client, ClosesAny, IsClientIn-closed, OneRing-client}
 
 -- a client whose gate stopped it is open

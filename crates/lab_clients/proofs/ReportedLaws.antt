@@ -1,28 +1,12 @@
 -- What the seats placed that an opening and a closing hand out and take back is what the segments say, as before.
-use Rattle.std.specs.Prelude.{◌≡◌, ◌≢◌, ℕ, ◌+◌, ◌<◌, List, [], ◌∷◌, ◌++◌, map, length, Option, Some, None, IfSome, option_map, slice_index_or, slice_set}
-use Rattle.std.proofs.Common.{sym, ◌∙◌, ap, subst, append_assoc, append-nil, arith, inl, inr}
-use Rattle.std.proofs.lemmas.Bool.{cases_eq}
-use Rattle.std.proofs.lemmas.List.{get_or-set_other, get_or-set_same, length-map}
-use Rattle.std.proofs.lemmas.Option.{none-some, same_Some}
-use Rattle.snd_base.specs.declared.places.Segment.{Segment}
-use Rattle.mix_core.specs.declared.port.Entry.{Entry}
-use Rattle.sum_table.specs.declared.seats.mix.MixSeat.{MixSeat}
-use Rattle.sum_table.specs.Seats.{member_of}
-use Rattle.dmix_client.specs.declared.stream.PlaybackStream.{PlaybackStream}
-use Rattle.lab_run.specs.Client.{Client, present_of, segments_of, stretch_of}
-use Rattle.lab_run.specs.Members.{with_member}
-use Rattle.lab_run.specs.Rules.{AtPort}
-use Rattle.lab_run.specs.Stage.{Session}
-use Rattle.lab_places.specs.Laid.{IsLaidWith, laid_list, laid_lists}
-use Rattle.lab_actors.specs.Walks.{AreEach, AreEach-at}
-use Rattle.lab_clients.specs.declared.client.LabClient.{LabClient}
-use Rattle.lab_clients.specs.declared.open_client.OpenClient.{OpenClient}
-use Rattle.lab_clients.specs.OneClient.{open_of}
-use Rattle.lab_clients.specs.OpenClient.{stream_of}
-use Rattle.lab_actors.specs.EachLaws.{AreEach-set_rest}
-use Rattle.lab_clients.specs.Exchanged.{IsAsOften}
-use Rattle.lab_clients.specs.Placed.{IsClientPlaced, IsPlacedBy, IsPlacedFor, IsPlacedOpen, IsReported, SeatSegment, client_segments, place_segments, with_number}
-use Rattle.lab_clients.specs.PlacedLaws.{client_segments-more, client_segments-other, place_segments-more, place_segments-other, seat_segments}
+use Rattle.lab_clients.specs.Prelude.{ap, append_assoc, arith, inl, inr, length, List, map, subst, sym, ℕ, [], ◌++◌, ◌+◌, ◌∙◌, ◌∷◌, ◌≡◌, cases_eq, append-nil}
+use Rattle.lab_clients.specs.Prelude.{get_or-set_other, get_or-set_same, length-map, none-some, same_Some, IfSome, None, Option, option_map, slice_index_or}
+use Rattle.lab_clients.specs.Prelude.{slice_set, Some, ◌<◌, ◌≢◌, Segment, Entry, MixSeat, member_of, PlaybackStream, Client, present_of, segments_of}
+use Rattle.lab_clients.specs.Prelude.{stretch_of, with_member, AtPort, Session, laid_list, laid_lists, AreEach-set_rest, AreEach, AreEach-at, LabClient}
+use Rattle.lab_clients.specs.Prelude.{OpenClient, IsAsOften, IsLaidWith, open_of, stream_of, client_segments, IsClientPlaced, IsPlacedBy, IsPlacedFor}
+use Rattle.lab_clients.specs.Prelude.{IsPlacedOpen, IsReported, place_segments, SeatSegment, client_segments-more, client_segments-other, place_segments-more}
+use Rattle.lab_clients.specs.Prelude.{place_segments-other, seat_segments}
+use Rattle.lab_clients.specs.Placed.{with_number}
 
 -- two relations of the items of two lists
 AreEach-both : {X Y : Type 0} (R T : ℕ → X → Y → Type 0) (number : ℕ) (xs : List X) (ys : List Y) → AreEach R number xs ys → AreEach T number xs ys

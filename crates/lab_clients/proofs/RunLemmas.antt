@@ -1,20 +1,12 @@
 -- Clients with their gates, one after the other: a client that did its lines asked its own gate alone.
-use Rattle.std.specs.Prelude.{◌≡◌, ◌≢◌, ℕ, ◌+◌, ◌<◌, ◌≤◌, List, length, slice_index_or, slice_set}
+use Rattle.lab_clients.specs.Prelude.{arith, length, List, subst, ℕ, ◌+◌, ◌∙◌, ◌≡◌, ◌≤◌, get_or-set_other, get_or_default, length-set, slice_index_or}
+use Rattle.lab_clients.specs.Prelude.{slice_set, ◌<◌, ◌≢◌, Sound, Line, AsksGate, no_sound, AreEach, HasWalked, HasWalked-map, HasWalked-step, LabClient}
+use Rattle.lab_clients.specs.Prelude.{RunsLines, AreSameFrom, RunsAt, sound_at}
 use Rattle.std.specs.Borrow.{MutBor}
 use denote.Param.Members.{Shared}
-use Rattle.std.proofs.Common.{◌∙◌, subst, arith}
-use Rattle.std.proofs.lemmas.List.{get_or-set_other, get_or_default, length-set}
-use Rattle.mix_core.specs.declared.gate.Gate as gate
-use Rattle.wav_io.specs.Sound.{Sound}
-use Rattle.lab_lines.specs.declared.line.Line.{Line}
-use Rattle.lab_run.specs.GateAsks.{AsksGate}
-use Rattle.lab_run.specs.Items.{no_sound}
 use Rattle.lab_actors.specs.Gates.{AsksGateAt, AsksGateAt-index, AsksGateAt-other, AsksGateAt-set}
 use Rattle.lab_actors.specs.Pairs.{AreEach-changed, ChangesPair, ChangesPair-holds, ChangesPairs}
-use Rattle.lab_actors.specs.Walks.{AreEach, HasWalked, HasWalked-map, HasWalked-step}
-use Rattle.lab_clients.specs.declared.client.LabClient.{LabClient}
-use Rattle.lab_clients.specs.OneClient.{RunsLines}
-use Rattle.lab_clients.specs.Steps.{AreSameFrom, RunsAt, sound_at}
+use Rattle.mix_core.specs.declared.gate.Gate as gate
 
 -- the clients up to a place did their lines, and the gates from there on are as they were
 pub record HaveRun {T : Type 0} (G : gate.Ghosts T) (before after : List T) (sounds : List Sound) (phase : ℕ) (lines : List Line) (old new : List LabClient) (to : ℕ) : Type 0 where

@@ -1,14 +1,8 @@
 -- What a segment's entries are: adds, so that they go to the end of the standing adds.
-use Rattle.std.proofs.Common.{◌≡◌, ℕ, List, [], ◌∷◌, ◌++◌, refl, map, take, length}
-use Rattle.std.specs.Prelude.{ℤ, slice_index}
-use Rattle.std.specs.List.{flat_map, range_with_len}
+use Rattle.lab_clients.specs.Prelude.{length, List, map, refl, take, ℕ, [], ◌++◌, ◌∷◌, ◌≡◌, flat_map, range_with_len, slice_index, ℤ, Entry, AreAdds}
+use Rattle.lab_clients.specs.Prelude.{PlaybackStream, frame_entries, segment_entries}
 use Rattle.bindings.specs.Bound.{rising}
-use Rattle.mix_core.specs.declared.port.Entry.{Entry}
 use Rattle.mix_core.specs.declared.port.Kind.TheVariants.{Added}
-use Rattle.mix_core.specs.Laid.{AreAdds}
-use Rattle.dmix_client.specs.declared.stream.PlaybackStream.{PlaybackStream}
-use Rattle.dmix_client.specs.Expansion.{frame_entries}
-use Rattle.dmix_client.specs.Growth.{segment_entries}
 
 AreAdds-append : (xs ys : List Entry) → AreAdds xs → AreAdds ys → AreAdds (xs ++ ys)
 AreAdds-append [] ys one two = two

@@ -1,11 +1,6 @@
 -- The segments of a client, in two parts.
-use Rattle.std.specs.Prelude.{◌≡◌, ◌+◌, ◌++◌, Option, Some, None, length}
-use Rattle.std.proofs.Common.{refl, ap, ◌∙◌}
-use Rattle.std.proofs.lemmas.List.{append-nil, length-append}
-use Rattle.lab_run.specs.Client.{segments_of}
-use Rattle.lab_clients.specs.OneClient.{client_by, client_in, ended_of, ended_segments, last_by, open_of}
-use Rattle.lab_clients.specs.declared.client.LabClient.{LabClient}
-use Rattle.lab_clients.specs.declared.open_client.OpenClient.{OpenClient}
+use Rattle.lab_clients.specs.Prelude.{ap, length, refl, ◌++◌, ◌+◌, ◌∙◌, ◌≡◌, append-nil, length-append, None, Option, Some, segments_of, LabClient, OpenClient}
+use Rattle.lab_clients.specs.Prelude.{client_by, client_in, ended_of, ended_segments, last_by, open_of}
 
 parts-by : (d : LabClient) (own : Option OpenClient) → segments_of (client_by (ended_of d) own) ≡ ended_segments d own ++ last_by d own
 parts-by d None = append-nil (ended_of d)

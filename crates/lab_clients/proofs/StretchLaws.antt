@@ -1,26 +1,13 @@
 -- How the segments of a client grow and end by what its port placed.
-use Rattle.std.proofs.Common.{◌≡◌, ℕ, List, [], ◌∷◌, ◌++◌, refl, sym, ◌∙◌, ap, subst, arith, append_assoc, length}
-use Rattle.std.proofs.lemmas.Bool.Decides.{nat_tests}
-use Rattle.std.proofs.lemmas.Int.{ints}
-use Rattle.std.proofs.lemmas.List.{append-nil}
-use Rattle.std.proofs.lemmas.List.Sums.{fold-append}
+use Rattle.lab_clients.specs.Prelude.{ap, append_assoc, arith, length, List, refl, subst, sym, ℕ, [], ◌++◌, ◌+◌, ◌∙◌, ◌∷◌, ◌≡◌, nat_tests, ints, append-nil}
+use Rattle.lab_clients.specs.Prelude.{flat_map, fold, Bool, false, if◌then◌else◌, nat_eq, true, ℤ, ◌&&◌, Segment, Composes, Entry, total-append, AreAdds}
+use Rattle.lab_clients.specs.Prelude.{stand_after, total, PlaybackStream, segment_of, run_entries, sample_at, Grows, Loses, segment_entries, stretch_of}
+use Rattle.lab_clients.specs.Prelude.{entries_by, ExtendsStretches, stretches_entries}
 use Rattle.std.proofs.lemmas.List.Concat.{flat_map-append}
-use Rattle.std.specs.Prelude.{◌+◌, ◌&&◌, Bool, true, false, nat_eq, if◌then◌else◌, ℤ}
-use Rattle.std.specs.List.{flat_map, fold}
-use Rattle.snd_base.specs.declared.places.Segment.{Segment}
-use Rattle.snd_base.specs.Relations.{Composes}
-use Rattle.mix_core.specs.declared.port.Entry.{Entry}
-use Rattle.mix_core.specs.declared.port.MixPort as mixport
-use Rattle.mix_core.specs.HistoryLaws.{total-append}
-use Rattle.mix_core.specs.Laid.{AreAdds, stand_after, total}
+use Rattle.std.proofs.lemmas.List.Sums.{fold-append}
 use Rattle.mix_core.specs.PortLaws.{standing-adds}
-use Rattle.dmix_client.specs.declared.stream.PlaybackStream.{PlaybackStream}
-use Rattle.dmix_client.specs.Calls.{segment_of}
-use Rattle.dmix_client.specs.Expansion.{run_entries, sample_at}
-use Rattle.dmix_client.specs.Growth.{Grows, Loses, segment_entries}
-use Rattle.lab_run.specs.Client.{stretch_of}
-use Rattle.lab_clients.specs.Lines.{ExtendsStretches, entries_by, stretches_entries}
 use Rattle.lab_clients.proofs.SegmentAdds.{AreAdds-suffix, segment-adds}
+use Rattle.mix_core.specs.declared.port.MixPort as mixport
 
 -- a stretch in which nothing was placed has no entries
 none-laid : (c : PlaybackStream) (samples : List ℤ) → c.stretch.committed ≡ 0 → c.stretch.part ≡ 0 → segment_entries c samples ≡ []

@@ -15,6 +15,7 @@ pub mod Parts
 pub mod Phase
 pub mod Placed
 pub mod PlacedLaws
+pub mod Prelude
 pub mod Reaped
 pub mod Reported
 pub mod Same

@@ -1,12 +1,6 @@
 -- A command that runs nothing asks no gate.
-use Rattle.std.proofs.Common.{◌≡◌, ℕ, List, refl, subst}
-use Rattle.std.specs.Prelude.{Option, Some, Result, Ok, Err, OnOk, ⊤}
-use Rattle.mix_core.specs.declared.gate.Pass.{Pass}
-use Rattle.mix_core.specs.declared.gate.StepKind.{StepKind}
-use Rattle.lab_phase.specs.PhaseRuns.{Stops}
-use Rattle.lab_shelf.specs.Files.{Files}
-use Rattle.lab_commands.specs.Words.{Form, make, run}
-use Rattle.lab_commands.specs.Top.{AskedIn}
+use Rattle.lab_commands.specs.Prelude.{List, refl, subst, ℕ, ◌≡◌, Err, Ok, OnOk, Option, Result, Some, ⊤, Pass, StepKind, Files, Stops, AskedIn, Form, make}
+use Rattle.lab_commands.specs.Prelude.{run}
 
 -- a form that isn't one of a run
 abbrev pub RunsNothing : Option Form → Type 0

@@ -1,17 +1,12 @@
 -- Exit statuses 2, 3 and 7 come exactly where their causes do, how a call ends where nothing fails, and the line that says why.
-use Rattle.std.proofs.Common.{◌≡◌, ◌≢◌, ◌⊎◌, ℕ, ap, refl, subst, inl, inr, List, arith}
-use Rattle.std.specs.Prelude.{Option, Some, None, IsSome, Result, Ok, Err, IfErr}
-use Rattle.std.specs.Option.{ForSome}
+use Rattle.lab_commands.specs.Prelude.{ap, arith, inl, inr, List, refl, subst, ℕ, ◌≡◌, ◌≢◌, ◌⊎◌, ForSome, Err, IfErr, IsSome, None, Ok, Option, Result, Some}
+use Rattle.lab_commands.specs.Prelude.{Files, TookPart, Stop, Conf, Memory, No, Read, Wav, Words, Write, EndsOf, EndsReliably, InputFaults, Refuses, status_of}
+use Rattle.lab_commands.specs.Prelude.{cause_in, cause_of, ComesExactly, EndsWell, IsConfRefused, IsScriptRefused, SaysWhy, Form, form_of}
 use Rattle.wav_io.specs.declared.error.WavError.{WavError}
-use Rattle.lab_shelf.specs.Files.{Files, TookPart}
 use Rattle.lab_shelf.specs.Counts.{Rose}
-use Rattle.lab_stop.specs.declared.stop.Stop.{Stop}
-use Rattle.lab_stop.specs.declared.stop.Stop.TheVariants.{Words, Script, Conf, Wav, Read, No, Write, Memory}
-use Rattle.lab_commands.specs.Words.{Form, form_of}
+use Rattle.lab_stop.specs.declared.stop.Stop.TheVariants.{Script}
 use Rattle.lab_stop.specs.Causes.{Cause, not_a_run, wav_refused}
 use Rattle.lab_stop.specs.Lines.{stop_line}
-use Rattle.lab_stop.specs.Stops.{status_of, EndsOf, EndsReliably, Refuses, InputFaults}
-use Rattle.lab_commands.specs.Top.{cause_in, cause_of, ComesExactly, EndsWell, IsConfRefused, IsScriptRefused, SaysWhy}
 
 -- words without a form have no cause
 none_caused : (form : Option Form) (files : Files) → form ≡ None → cause_in form files ≡ None

@@ -1,35 +1,14 @@
 -- How a command ends whose parts read, run and write.
-use Rattle.std.proofs.Common.{◌≡◌, ◌∙◌, ◌⊎◌, ◌++◌, ℕ, List, ap, refl, subst, inl, inr}
-use Rattle.std.specs.Prelude.{Option, Some, Result, Ok, Err, IfErr, OnOk, OnErr}
-use Rattle.std.specs.Option.{ForSome, option_map}
-use Rattle.mix_core.specs.declared.gate.Pass.{Pass}
-use Rattle.mix_core.specs.declared.gate.StepKind.{StepKind}
-use Rattle.wav_io.specs.Sound.{Sound}
-use Rattle.run_laws.specs.Exact.{IsExactRun, IsOwnRun, IsUnstoppedRun}
-use Rattle.lab_input.specs.Input.{RunInput, input_in}
-use Rattle.lab_phase.specs.PhaseRuns.{Stops}
-use Rattle.lab_play.specs.Exact.{HasStoppedRun}
-use Rattle.lab_play.specs.Played.{HasPlayedAsking, HasPlayedPart, IsUntouched}
-use Rattle.lab_refine.specs.Answered.{IsAnswerTo}
+use Rattle.lab_commands.specs.Prelude.{ap, inl, inr, List, refl, subst, ℕ, ◌++◌, ◌∙◌, ◌≡◌, ◌⊎◌, ForSome, option_map, Err, IfErr, Ok, OnErr, OnOk, Option}
+use Rattle.lab_commands.specs.Prelude.{Result, Some, Pass, StepKind, Sound, Files, TookPart, Item, Script as ScriptOf, IsScript, Outcome, IsSessionOf, Session}
+use Rattle.lab_commands.specs.Prelude.{Stops, IsExactRun, IsOwnRun, IsUnstoppedRun, Stop, IsWriteKind-only, at_memory, at_output, IsWriteStop, stop_facts}
+use Rattle.lab_commands.specs.Prelude.{StopKind, input_in, RunInput, IsCheckedRun, Workload, HasPlayedAsking, HasPlayedPart, IsUntouched, IsMadeAsking}
+use Rattle.lab_commands.specs.Prelude.{IsMadePart, HasFinishedAsking, IsUnfinished, CommandLeaves, LeavesAt, check, Form, make, refine, run}
 use Rattle.lab_report.specs.Ranges.{IsReportInRange}
-use Rattle.lab_run.specs.LabRun.{Outcome}
-use Rattle.lab_run.specs.Openings.{IsSessionOf}
-use Rattle.lab_run.specs.Stage.{Session}
-use Rattle.lab_lines.specs.declared.line.Item.{Item}
-use Rattle.lab_lines.specs.declared.script.Script.{Script as ScriptOf}
-use Rattle.lab_lines.specs.Limits.{IsScript}
-use Rattle.lab_shelf.specs.Files.{Files, TookPart}
-use Rattle.lab_stop.specs.FaultLaws.{IsWriteKind-only}
-use Rattle.lab_stop.specs.declared.stop.Stop.{Stop}
-use Rattle.lab_stop.specs.Stops.{StopKind, at_output, at_memory, stop_facts, IsWriteStop}
-use Rattle.lab_make.specs.declared.workload.Workload.{Workload}
-use Rattle.lab_commands.specs.Made.{IsMadeAsking, IsMadePart}
 use Rattle.lab_check.specs.Runs.{RunsAreChecked, RunsSayHeadline}
-use Rattle.lab_compare.specs.Checking.{IsCheckedRun}
 use Rattle.lab_compare.proofs.PassedChecks.{run-passes}
-use Rattle.lab_commands.specs.Words.{Form, check, make, refine, run}
-use Rattle.lab_commands.specs.Run.{HasFinishedAsking, IsUnfinished}
-use Rattle.lab_commands.specs.Top.{CommandLeaves, LeavesAt}
+use Rattle.lab_refine.specs.Answered.{IsAnswerTo}
+use Rattle.lab_play.specs.Exact.{HasStoppedRun}
 
 -- what the laws of runs say of each run
 pub record RunLaws : Type 0 where

@@ -1,35 +1,13 @@
 -- What the parts of the command leave together.
-use Rattle.std.proofs.Common.{◌≡◌, ◌∙◌, ◌⊎◌, ℕ, List, [], ◌++◌, ap, sym, subst, refl, inl, inr}
-use Rattle.std.specs.Prelude.{All, ℤ, Option, Some, None, Result, Ok, Err, OnErr, OnOk}
-use Rattle.std.specs.Option.{ForSome, option_map}
-use Rattle.mix_core.specs.declared.gate.Pass.{Pass}
-use Rattle.mix_core.specs.declared.gate.StepKind.{StepKind}
-use Rattle.wav_io.specs.Sound.{Sound}
-use Rattle.run_laws.specs.Exact.{IsExactRun, IsOwnRun, IsUnstoppedRun}
-use Rattle.run_laws.specs.OneSession.{HaveOneSession}
-use Rattle.lab_input.specs.Input.{RunInput, input_in}
-use Rattle.lab_make.specs.declared.summary.Summary.{Summary}
-use Rattle.lab_make.specs.declared.workload.Workload.{Workload}
-use Rattle.lab_make.specs.Files.{IsMadeSound, made_sounds}
-use Rattle.lab_make.specs.Lines.{made_text}
-use Rattle.lab_make.specs.Script.{made_script}
-use Rattle.lab_make.specs.Summary.{IsSummaryOf, summary_text}
-use Rattle.lab_make.specs.Workload.{IsWorkload}
-use Rattle.lab_output.specs.Files.{output_files, finished_files}
-use Rattle.lab_phase.specs.PhaseRuns.{Stops}
-use Rattle.lab_play.specs.Played.{HasPlayed, HasPlayedAsking, HasPlayedPart, IsRunOf, IsUntouched, sounds_of}
-use Rattle.lab_play.specs.Stops.{HaveNoStops}
-use Rattle.lab_report.specs.Text.{report_text}
-use Rattle.lab_run.specs.LabRun.{Outcome}
-use Rattle.lab_run.specs.Openings.{IsSessionOf}
-use Rattle.lab_run.specs.Stage.{Session}
-use Rattle.lab_lines.specs.declared.line.Item.{Item}
-use Rattle.lab_lines.specs.declared.script.Script.{Script}
-use Rattle.lab_lines.specs.Limits.{IsScript}
+use Rattle.lab_commands.specs.Prelude.{ap, inl, inr, List, refl, subst, sym, ℕ, [], ◌++◌, ◌∙◌, ◌≡◌, option_map, All, None, Ok, Option, Some, ℤ, Pass, StepKind}
+use Rattle.lab_commands.specs.Prelude.{Sound, Files, IsPartWritten, with_file, Item, Script, IsScript, Outcome, IsSessionOf, Session, Stops, IsExactRun}
+use Rattle.lab_commands.specs.Prelude.{IsOwnRun, IsUnstoppedRun, HaveOneSession, RunInput, finished_files, output_files, Summary, Workload, IsMadeSound}
+use Rattle.lab_commands.specs.Prelude.{made_sounds, made_script, InputInPart, IsReadBack, made_input, with_input, with_workload, IsSummaryOf, summary_text}
+use Rattle.lab_commands.specs.Prelude.{HasPlayed, HasPlayedAsking, HasPlayedPart, sounds_of, HaveNoStops, HasPutSummary, HasPutSummaryPart, IsMadeAsking}
+use Rattle.lab_commands.specs.Prelude.{IsMadePart, IsOnlyMade, made_outcome, made_report, output_name, report_name, with_made, with_run_files}
 use Rattle.lab_script.specs.Reading.{script_of}
-use Rattle.lab_shelf.specs.Files.{Files, IsPartWritten, TookPart, with_file}
-use Rattle.lab_make.specs.Stored.{InputInPart, IsReadBack, made_input, script_name, with_input, with_workload}
-use Rattle.lab_commands.specs.Made.{HasPutSummary, HasPutSummaryPart, IsMadeAsking, IsMadePart, IsOnlyMade, StoppedAtEnd, StoppedBefore, StoppedAfterRun, StoppedInRun, made_outcome, made_report, output_name, report_name, with_made, with_run_files}
+use Rattle.lab_make.specs.Lines.{made_text}
+use Rattle.lab_make.specs.Workload.{IsWorkload}
 use Rattle.lab_make.proofs.ReadBack.{input-made}
 use Rattle.lab_commands.proofs.Unmixed.{AreUnmixed-made}
 

@@ -1,27 +1,10 @@
 -- A command that is done leaves the only thing that it can leave.
-use Rattle.std.proofs.Common.{◌≡◌, ◌∙◌, ℕ, List, ◌++◌, ap, sym, subst, arith}
-use Rattle.std.specs.Prelude.{Option, Some, None, Result, Ok, Err}
-use Rattle.std.specs.Option.{option_map}
-use Rattle.lab_conf.specs.DescribedLaws.{Described-only}
-use Rattle.run_laws.specs.OneSession.{HaveOneSession}
-use Rattle.lab_input.specs.Input.{RunInput, input_in}
-use Rattle.lab_output.specs.Files.{output_files, finished_files}
-use Rattle.lab_phase.specs.PhaseRuns.{Stops}
-use Rattle.lab_play.specs.Played.{sounds_of}
+use Rattle.lab_commands.specs.Prelude.{ap, arith, List, subst, sym, ℕ, ◌++◌, ◌∙◌, ◌≡◌, option_map, Err, None, Ok, Option, Result, Some, Sound, Files}
+use Rattle.lab_commands.specs.Prelude.{Script as ScriptOf, lab_text, Outcome, IsSessionOf, AreUnmixed, Session, Stops, HaveOneSession, Stop, Words, status_of}
+use Rattle.lab_commands.specs.Prelude.{input_in, RunInput, finished_files, output_files, sounds_of, HasFinished, IsOnlyRun, IsOnlyRunOf, CommandLeaves, OnlyIn}
+use Rattle.lab_commands.specs.Prelude.{check, conf, Form, help, make, refine, run, version}
 use Rattle.lab_report.specs.Text.{report_text}
-use Rattle.lab_run.specs.LabRun.{Outcome, lab_text}
-use Rattle.lab_run.specs.Openings.{IsSessionOf}
-use Rattle.lab_run.specs.Phases.{AreUnmixed}
-use Rattle.lab_run.specs.Stage.{Session}
-use Rattle.lab_lines.specs.declared.script.Script.{Script as ScriptOf}
-use Rattle.lab_shelf.specs.Files.{Files}
-use Rattle.lab_stop.specs.declared.stop.Stop.{Stop}
-use Rattle.lab_stop.specs.declared.stop.Stop.TheVariants.{Words}
-use Rattle.lab_stop.specs.Stops.{status_of}
-use Rattle.wav_io.specs.Sound.{Sound}
-use Rattle.lab_commands.specs.Words.{Form, run, check, refine, conf, make, help, version}
-use Rattle.lab_commands.specs.Run.{HasFinished, IsOnlyRun, IsOnlyRunOf}
-use Rattle.lab_commands.specs.Top.{CommandLeaves, OnlyIn}
+use Rattle.lab_conf.specs.DescribedLaws.{Described-only}
 
 -- each script has one session
 abbrev pub OneSession : Type 0

@@ -1,9 +1,8 @@
 -- Tests of bytes.
-use Rattle.std.proofs.Common.{◌≡◌, sym, List, ℕ}
-use Rattle.std.specs.Prelude.{Result, Ok, Err, MatchResult, is_ok}
-use Rattle.std.specs.Str.{IsUtf8, is_utf8}
-use Rattle.std.proofs.lemmas.Str.{IsUtf8-from_is_utf8, is_utf8-from_IsUtf8}
+use Rattle.lab_commands.specs.Prelude.{List, sym, ℕ, ◌≡◌, Err, is_ok, MatchResult, Ok, Result}
 use Rattle.std.proofs.lemmas.Bool.{false_from_ne_true}
+use Rattle.std.proofs.lemmas.Str.{IsUtf8-from_is_utf8, is_utf8-from_IsUtf8}
+use Rattle.std.specs.Str.{IsUtf8, is_utf8}
 
 -- a reading that works exactly at UTF-8 shows whether bytes are UTF-8
 pub is_ok-is_utf8 : {T E : Type 0} (r : Result T E) (bs : List ℕ) (P : T → Type 0) (Q : E → Type 0)

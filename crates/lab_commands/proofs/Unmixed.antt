@@ -1,12 +1,9 @@
 -- No phase of a workload's script is mixed.
-use Rattle.std.proofs.Common.{◌≡◌, ℕ, Bool, false, List, [], ◌∷◌, ◌++◌, map, refl, ap}
-use Rattle.std.specs.Prelude.{◌&&◌, not}
+use Rattle.lab_commands.specs.Prelude.{ap, false, List, map, refl, ℕ, [], ◌++◌, ◌∷◌, ◌≡◌, not, ◌&&◌, Item, AreUnmixed, made_body, made_opening, turn_items}
+use Rattle.lab_commands.specs.Prelude.{write_line}
 use Rattle.std.specs.List.{flat_map, list_any, range_with_len}
-use Rattle.lab_lines.specs.declared.line.Item.{Item}
 use Rattle.lab_lines.specs.declared.line.Line.{Line}
 use Rattle.lab_lines.specs.Script.{is_card_line}
-use Rattle.lab_run.specs.Phases.{AreUnmixed}
-use Rattle.lab_make.specs.Script.{made_body, made_opening, turn_items, write_line}
 
 -- items, and then others
 AreUnmixed-append : (xs ys : List Item) → AreUnmixed xs → AreUnmixed ys → AreUnmixed (xs ++ ys)

@@ -1,30 +1,13 @@
 -- Where all tests of a check pass, its files are those of a checked run.
-use Rattle.std.proofs.Common.{◌≡◌, ℕ, ◌+◌, true, false, ap, ◌∙◌, refl, List, [], ◌∷◌, length, map, take, drop}
-use Rattle.std.proofs.lemmas.Slice.Eq.{bytes_eq-Decides}
-use Rattle.std.specs.Prelude.{Bool, ℤ, OnOk, Option, Some, None, Result, Ok, Err}
-use Rattle.std.specs.Option.{ForSome, option_map}
-use Rattle.std.specs.Str.{bytes_eq}
-use Rattle.lab_check.specs.Checked.{IsChecked, recorded_sounds, run_sounds}
-use Rattle.lab_check.specs.Lines.{line_of_end, line_of_played}
-use Rattle.lab_check.specs.Pieces.{IsSameFile}
-use Rattle.lab_check.specs.Samples.{played_samples, reader_samples, readers_samples, run_samples}
+use Rattle.lab_compare.specs.Prelude.{ap, drop, Err, false, length, List, map, refl, take, true, ℕ, [], ◌+◌, ◌∙◌, ◌∷◌, ◌≡◌, bytes_eq-Decides, ForSome}
+use Rattle.lab_compare.specs.Prelude.{option_map, Bool, None, Ok, OnOk, Option, Result, Some, ℤ, bytes_eq, canonical, Sound, bytes_under, Files, Report}
+use Rattle.lab_compare.specs.Prelude.{CardLine, ReaderLine, Script, read_by, IsChecked, recorded_sounds, run_sounds, line_of_end, line_of_played, IsSameFile}
+use Rattle.lab_compare.specs.Prelude.{played_samples, reader_samples, readers_samples, run_samples, bytes_or_cause, Cause, ◌>>=◌, AnswersOrStops, input_in}
+use Rattle.lab_compare.specs.Prelude.{RunInput, OutputFile, finished_file, output_files, played_file, recorded_file, is_same_in, IsCheckedRun, IsReportIn}
+use Rattle.lab_compare.specs.Prelude.{outputs_in, played_in, recording_in, recordings_in, same_in, same_or_line}
 use Rattle.lab_check.specs.Shown.{IsShown}
-use Rattle.lab_input.specs.Input.{RunInput, input_in}
-use Rattle.lab_lines.specs.declared.report.Report.{Report}
-use Rattle.lab_lines.specs.declared.script.CardLine.{CardLine}
-use Rattle.lab_lines.specs.declared.script.ReaderLine.{ReaderLine}
-use Rattle.lab_lines.specs.declared.script.Script.{Script}
-use Rattle.lab_output.specs.declared.file.OutputFile.{OutputFile}
-use Rattle.lab_output.specs.Files.{finished_file, output_files, played_file, recorded_file}
-use Rattle.lab_run.specs.Openings.{read_by}
-use Rattle.lab_shelf.specs.Files.{Files, bytes_under}
 use Rattle.lab_stop.specs.declared.stop.Stop.{Stop}
-use Rattle.lab_stop.specs.Causes.{Cause, bytes_or_cause, ◌>>=◌}
-use Rattle.lab_stop.specs.Stops.{AnswersOrStops}
-use Rattle.wav_io.specs.Canonical.{canonical}
-use Rattle.wav_io.specs.Sound.{Sound}
 use Rattle.lab_compare.proofs.PassedChecks.{channels-read}
-use Rattle.lab_compare.specs.Checking.{IsCheckedRun, IsReportIn, is_same_in, outputs_in, played_in, recording_in, recordings_in, same_in, same_or_line}
 
 -- what the laws of checks say
 pub record CheckLaws : Type 0 where

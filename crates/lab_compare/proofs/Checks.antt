@@ -1,32 +1,18 @@
 -- The tests of a check, one after the other: a stop at one is a stop of the check.
-use Rattle.std.proofs.Common.{◌≡◌, ◌≤◌, ◌<◌, ◌+◌, ℕ, suc, zero, true, false, sym, ap, subst, ◌∙◌, refl, List, [], ◌∷◌, length, take, drop, get_or, length-take, add-one, arith, drop-cons}
-use Rattle.std.proofs.lemmas.Bool.Decides.{nat_tests}
-use Rattle.std.proofs.lemmas.List.{drop_all, take_all}
-use Rattle.std.proofs.lemmas.Option.{get_or_from_slice_get, slice_get_within}
-use Rattle.std.specs.Prelude.{All, Bool, ℤ, Option, Some, None, Result, Ok, Err, IfOk, min, nat_le, slice_get, slice_index_or, if◌then◌else◌}
-use Rattle.std.specs.Option.{ForSome, option_map}
-use Rattle.lab_check.specs.declared.error.CheckError.{CheckError}
-use Rattle.lab_check.specs.declared.error.CheckError.TheVariants as checks
-use Rattle.lab_check.specs.Defects.{HasTestedRuns, HasTestedSegments, most_of_report, tested, tested_report}
-use Rattle.lab_check.specs.Lines.{line_of_end, line_of_played}
-use Rattle.lab_check.specs.Results.{ChecksAs}
-use Rattle.lab_check.specs.Samples.{played_samples, reader_samples, readers_samples}
-use Rattle.lab_input.specs.Input.{RunInput, input_in}
-use Rattle.lab_lines.specs.declared.report.Report.{Report}
-use Rattle.lab_lines.specs.declared.script.CardLine.{CardLine}
-use Rattle.lab_lines.specs.declared.script.ReaderLine.{ReaderLine}
-use Rattle.lab_lines.specs.declared.script.Script.{Script}
+use Rattle.lab_compare.specs.Prelude.{add-one, ap, arith, drop, drop-cons, Err, false, get_or, length, length-take, List, refl, subst, suc, sym, take, true}
+use Rattle.lab_compare.specs.Prelude.{zero, ℕ, [], ◌+◌, ◌<◌, ◌∙◌, ◌∷◌, ◌≡◌, ◌≤◌, nat_tests, drop_all, take_all, get_or_from_slice_get, slice_get_within}
+use Rattle.lab_compare.specs.Prelude.{ForSome, option_map, All, Bool, IfOk, if◌then◌else◌, min, nat_le, None, Ok, Option, Result, slice_get, slice_index_or}
+use Rattle.lab_compare.specs.Prelude.{Some, ℤ, Sound, bytes_under, Files, Report, CardLine, ReaderLine, Script, HasTestedRuns, HasTestedSegments}
+use Rattle.lab_compare.specs.Prelude.{most_of_report, tested, tested_report, line_of_end, line_of_played, played_samples, reader_samples, readers_samples}
+use Rattle.lab_compare.specs.Prelude.{bytes_or_cause, Cause, first_bytes, ◌>>=◌, IsSameShelf, AnswersOrStops, Misses, TestFaults, input_in, RunInput}
+use Rattle.lab_compare.specs.Prelude.{OutputFile, played_file, recorded_file, as_tested, check_in, is_same_in, IsReportIn, outputs_in, passed, played_in}
+use Rattle.lab_compare.specs.Prelude.{recording_in, recordings_in, same_in, same_or_line, tested_in}
 use Rattle.lab_lines.specs.Limits.{IsReaderLine}
-use Rattle.lab_output.specs.declared.file.OutputFile.{OutputFile}
-use Rattle.lab_output.specs.Files.{played_file, recorded_file}
 use Rattle.lab_report.specs.Reading.{report_in_text}
+use Rattle.lab_check.specs.declared.error.CheckError.{CheckError}
+use Rattle.lab_check.specs.Results.{ChecksAs}
+use Rattle.lab_check.specs.declared.error.CheckError.TheVariants as checks
 use Rattle.lab_shelf.specs.declared.traits.Shelf as shelves
-use Rattle.lab_shelf.specs.Files.{Files, bytes_under}
-use Rattle.lab_stop.specs.Causes.{Cause, bytes_or_cause, first_bytes, ◌>>=◌}
-use Rattle.lab_stop.specs.Effects.{IsSameShelf}
-use Rattle.lab_stop.specs.Stops.{AnswersOrStops, Misses, TestFaults}
-use Rattle.wav_io.specs.Sound.{Sound}
-use Rattle.lab_compare.specs.Checking.{IsReportIn, as_tested, check_in, is_same_in, outputs_in, passed, played_in, recording_in, recordings_in, same_in, same_or_line, tested_in}
 
 -- ---- a file that is compared
 

@@ -1,22 +1,13 @@
 -- A file is compared with the one that it must be, piece by piece.
-use Rattle.std.proofs.Common.{◌≡◌, ℕ, ◌+◌, ◌-◌, ◌*◌, ◌%◌, ◌<◌, ◌≤◌, ◌⊎◌, true, false, List, length, take, drop, length-take, length-drop, arith, refl, sym, ap, subst, inl, inr, ◌∙◌}
-use Rattle.std.specs.Prelude.{◌&&◌, ℤ, Bool, min, Option, Some, None, Ok, Err, Result}
-use Rattle.std.specs.Bool.{Decides, one_answer}
-use Rattle.std.specs.Option.{ForSome, option_map}
-use Rattle.std.specs.Str.{bytes_eq}
-use Rattle.std.proofs.lemmas.Bool.{cases_lt}
-use Rattle.std.proofs.lemmas.List.{take_all}
+use Rattle.lab_compare.specs.Prelude.{ap, arith, drop, Err, false, inl, inr, length, length-drop, length-take, List, refl, subst, sym, take, true, ℕ, ◌%◌, ◌*◌}
+use Rattle.lab_compare.specs.Prelude.{◌+◌, ◌-◌, ◌<◌, ◌∙◌, ◌≡◌, ◌≤◌, ◌⊎◌, take_all, bytes_eq-Decides, ForSome, option_map, Bool, min, None, Ok, Option, Result}
+use Rattle.lab_compare.specs.Prelude.{Some, ℤ, ◌&&◌, bytes_eq, bytes_under, Files, IsSameUpTo, bytes_or_cause, Cause, fetched_from, first_bytes, ◌>>=◌}
+use Rattle.lab_compare.specs.Prelude.{IsSameShelf, OutputFile, finished_file, is_same_in}
 use Rattle.std.proofs.Math.Nat.{mul-mod_left}
-use Rattle.std.proofs.lemmas.Slice.Eq.{bytes_eq-Decides}
-use Rattle.lab_check.specs.Pieces.{IsSameUpTo}
-use Rattle.lab_output.specs.declared.file.OutputFile.{OutputFile}
-use Rattle.lab_output.specs.Files.{finished_file}
-use Rattle.lab_shelf.specs.declared.traits.Shelf as shelves
-use Rattle.lab_shelf.specs.Files.{Files, bytes_under}
-use Rattle.lab_stop.specs.Causes.{Cause, bytes_or_cause, first_bytes, fetched_from, ◌>>=◌}
-use Rattle.lab_stop.specs.Effects.{IsSameShelf}
+use Rattle.std.proofs.lemmas.Bool.{cases_lt}
+use Rattle.std.specs.Bool.{Decides, one_answer}
 use Rattle.lab_stop.specs.Pieces.{refused_alike}
-use Rattle.lab_compare.specs.Checking.{is_same_in}
+use Rattle.lab_shelf.specs.declared.traits.Shelf as shelves
 
 -- what the law of pieces says of all files
 abbrev pub PiecesTell : Type 0

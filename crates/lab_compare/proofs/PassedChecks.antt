@@ -1,31 +1,16 @@
 -- A check of the files of a checked run finds no cause.
-use Rattle.std.proofs.Common.{◌≡◌, ℕ, ◌+◌, ◌≤◌, refl, sym, ◌∙◌, ap, arith, List, [], ◌∷◌, length, map, take, drop, Option, Some, None}
-use Rattle.std.proofs.lemmas.List.{take_all}
+use Rattle.lab_compare.specs.Prelude.{ap, arith, drop, length, List, map, refl, sym, take, true, ℕ, [], ◌+◌, ◌∙◌, ◌∷◌, ◌≡◌, ◌≤◌, take_all, bytes_eq-Decides}
+use Rattle.lab_compare.specs.Prelude.{option_map, Bool, None, Ok, Option, Result, Some, unwrap_or, ℤ, bytes_eq, canonical, bytes_under, Files, Report, CardLine}
+use Rattle.lab_compare.specs.Prelude.{ReaderLine, read_by, IsChecked, recorded_sounds, run_sounds, most_of_report, tested_report, line_of_end, line_of_played}
+use Rattle.lab_compare.specs.Prelude.{played_samples, reader_samples, readers_samples, run_samples, bytes_or_cause, Cause, first_bytes, ◌>>=◌, input_in}
+use Rattle.lab_compare.specs.Prelude.{RunInput, OutputFile, finished_file, output_files, played_file, reader_channels, recorded_file, as_tested, check_in}
+use Rattle.lab_compare.specs.Prelude.{HoldsRun, is_same_in, outputs_in, played_in, recording_in, recordings_in, same_in, same_or_line, tested_in}
 use Rattle.std.proofs.lemmas.List.FromFn.{length-range_with_len}
-use Rattle.std.proofs.lemmas.Slice.Eq.{bytes_eq-Decides}
-use Rattle.std.specs.Prelude.{Bool, true, ℤ, unwrap_or, Result, Ok}
 use Rattle.std.specs.List.{range_with_len}
-use Rattle.std.specs.Option.{option_map}
-use Rattle.std.specs.Str.{bytes_eq}
-use Rattle.lab_check.specs.Checked.{IsChecked, recorded_sounds, run_sounds}
-use Rattle.lab_check.specs.Defects.{most_of_report, tested_report}
-use Rattle.lab_check.specs.Lines.{line_of_end, line_of_played}
-use Rattle.lab_check.specs.Runs.{samples_of_run}
-use Rattle.lab_check.specs.Samples.{played_samples, reader_samples, readers_samples, run_samples}
-use Rattle.lab_input.specs.Input.{RunInput, input_in}
-use Rattle.lab_lines.specs.declared.report.Report.{Report}
-use Rattle.lab_lines.specs.declared.script.CardLine.{CardLine}
-use Rattle.lab_lines.specs.declared.script.ReaderLine.{ReaderLine}
-use Rattle.lab_output.specs.declared.file.OutputFile.{OutputFile}
-use Rattle.lab_output.specs.Files.{finished_file, output_files, played_file, reader_channels, recorded_file}
 use Rattle.lab_report.specs.Text.{report_text}
 use Rattle.lab_run.specs.LabRun.{Outcome}
-use Rattle.lab_run.specs.Openings.{read_by}
-use Rattle.lab_shelf.specs.Files.{Files, bytes_under}
-use Rattle.lab_stop.specs.Causes.{Cause, bytes_or_cause, first_bytes, ◌>>=◌}
-use Rattle.wav_io.specs.Canonical.{canonical}
+use Rattle.lab_check.specs.Runs.{samples_of_run}
 use Rattle.lab_compare.proofs.Checks.{few-bytes}
-use Rattle.lab_compare.specs.Checking.{HoldsRun, as_tested, check_in, is_same_in, outputs_in, played_in, recording_in, recordings_in, same_in, same_or_line, tested_in}
 
 -- ---- the bytes of a file
 

@@ -1,17 +1,9 @@
 -- A reader of a WAV file that comes in pieces, as it is or converted.
-use Rattle.std.proofs.Common.{◌≡◌, ℕ, List, [], ◌++◌, ℤ, sym, ap, subst, ◌∙◌, append-nil}
-use Rattle.std.specs.Prelude.{Option, Some, None, Result, Ok, Err, OnOk, IfErr}
-use Rattle.lab_input.specs.declared.plug.PlugReader.{PlugReader}
-use Rattle.lab_input.specs.declared.shape.Shape.{Shape}
+use Rattle.lab_input.specs.Prelude.{ap, append-nil, List, subst, sym, ℕ, ℤ, [], ◌++◌, ◌∙◌, ◌≡◌, Err, IfErr, None, Ok, OnOk, Option, Result, Some, WavError}
+use Rattle.lab_input.specs.Prelude.{sound_to_come, with_samples, IsRefusal, Reads, wav_file, Sound, PlugReader, Shape, IsConverting, IsPlugOfFile, plug_file}
+use Rattle.lab_input.specs.Prelude.{sound_file, IsAfter, IsOfFile, IsPlainAfter, IsPlainOfFile}
 use Rattle.lab_input.specs.declared.sound.FileReader.TheVariants.{Plain, Plugged}
 use Rattle.lab_input.specs.declared.sound.SoundReader.{SoundReader}
-use Rattle.lab_input.specs.Converting.{IsConverting, IsPlugOfFile}
-use Rattle.lab_input.specs.Plug.{plug_file, sound_file}
-use Rattle.lab_input.specs.Sound.{IsAfter, IsOfFile, IsPlainAfter, IsPlainOfFile}
-use Rattle.wav_io.specs.declared.error.WavError.{WavError}
-use Rattle.wav_io.specs.Reading.{IsRefusal, Reads, wav_file}
-use Rattle.wav_io.specs.Readers.{sound_to_come, with_samples}
-use Rattle.wav_io.specs.Sound.{Sound}
 
 -- the file ends, and is a sound
 pub wav_file-ended : (r : SoundReader) (seen : List ℕ) (channels rate : ℕ) → IsPlainAfter r seen

@@ -1,20 +1,13 @@
 -- What a run reads: its script, the sound that its card captures, and its clients' sounds.
-use Rattle.std.proofs.Common.{◌≡◌, ◌⊎◌, ℕ, List, ap, sym, subst, inl, inr, ◌∙◌}
-use Rattle.std.specs.Prelude.{Option, Result, Ok, Err}
-use Rattle.std.specs.Option.{ForSome}
+use Rattle.lab_input.specs.Prelude.{ap, inl, inr, List, subst, sym, ℕ, ◌∙◌, ◌≡◌, ◌⊎◌, ForSome, Err, Ok, Option, Result, Sound, Files, ClientLine, Stop, Cause}
+use Rattle.lab_input.specs.Prelude.{first_bytes, ◌>>=◌, FetchFaults, IsCauseOf, IsScriptStop, Misses, as_script, capture_in, input_in, RunInput, script_in}
+use Rattle.lab_input.specs.Prelude.{sounds_in}
+use Rattle.lab_lines.specs.declared.script.Script.{Script}
 use Rattle.lab_script.specs.declared.error.ScriptError.{ScriptError}
 use Rattle.lab_script.specs.declared.error.ScriptWhy.{ScriptWhy}
-use Rattle.lab_script.specs.declared.error.ScriptWhy.TheVariants as why
-use Rattle.lab_lines.specs.declared.script.ClientLine.{ClientLine}
-use Rattle.lab_lines.specs.declared.script.Script.{Script}
 use Rattle.lab_script.specs.Reading.{script_of, RefusesAt}
-use Rattle.lab_shelf.specs.Files.{Files}
-use Rattle.lab_stop.specs.declared.stop.Stop.{Stop}
+use Rattle.lab_script.specs.declared.error.ScriptWhy.TheVariants as why
 use Rattle.lab_stop.specs.declared.stop.Stop.TheVariants as stops
-use Rattle.lab_stop.specs.Causes.{Cause, first_bytes, ◌>>=◌}
-use Rattle.lab_stop.specs.Stops.{FetchFaults, IsCauseOf, IsScriptStop, Misses}
-use Rattle.wav_io.specs.Sound.{Sound}
-use Rattle.lab_input.specs.Input.{RunInput, as_script, script_in, capture_in, sounds_in, input_in}
 
 -- ---- the script
 

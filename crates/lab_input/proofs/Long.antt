@@ -1,16 +1,9 @@
 -- A file that has more bytes than a WAV file may have, of which the first show what it is.
-use Rattle.std.proofs.Common.{◌≡◌, ℕ, ◌+◌, ◌-◌, ◌<◌, ◌≤◌, List, ◌++◌, length, take, sym, ap, refl, ◌∙◌, arith, leb}
-use Rattle.std.proofs.lemmas.Bool.{lt-leb, cond-false}
-use Rattle.std.proofs.lemmas.List.{length-append, take-append-le}
-use Rattle.std.specs.Prelude.{Option, Some, None, Result, Ok, Err}
-use Rattle.wav_io.specs.declared.error.WavError.{WavError}
-use Rattle.wav_io.specs.declared.error.WavError.TheVariants.{TooLong}
+use Rattle.lab_input.specs.Prelude.{ap, arith, leb, length, List, refl, sym, take, ℕ, ◌++◌, ◌+◌, ◌-◌, ◌<◌, ◌∙◌, ◌≡◌, cond-false, lt-leb, length-append}
+use Rattle.lab_input.specs.Prelude.{take-append-le, Err, None, Option, Result, Some, WavError, TooLong, raws, before_end, body_found, Contents, contents, ended}
+use Rattle.lab_input.specs.Prelude.{Finding, format_cut, found_in, most_bytes, refused, sounds, within_limit, Shape, converted_file, sound_file}
 use Rattle.wav_io.specs.declared.format.Depths.{Depths}
 use Rattle.wav_io.specs.declared.format.Depths.TheVariants.{Sixteen, UpTo32}
-use Rattle.wav_io.specs.Reading.{Contents, Finding, refused, body_found, format_cut, ended, before_end, found_in, within_limit, contents, most_bytes, sounds}
-use Rattle.wav_io.specs.Readers.{raws}
-use Rattle.lab_input.specs.declared.shape.Shape.{Shape}
-use Rattle.lab_input.specs.Plug.{converted_file, sound_file}
 
 -- what such a file is, by its first bytes
 contents-long : (depths : Depths) (bytes : List ℕ) → most_bytes < length bytes

@@ -1,25 +1,16 @@
 -- A file that is converted while its pieces come.
-use Rattle.std.proofs.Common.{◌≡◌, ℕ, ◌+◌, ◌*◌, ◌%◌, ◌<◌, ◌≤◌, List, [], ◌∷◌, ◌++◌, length, Result, Ok, Err, refl, sym, ap, subst, ◌∙◌, arith, append-nil, append_assoc, leb, ℤ, inl, inr, false}
-use Rattle.std.proofs.lemmas.Bool.{false_from_ne_true, cond-true, cond-false, le-leb, lt-leb, cases_lt}
-use Rattle.std.proofs.lemmas.List.{length-append}
-use Rattle.std.specs.Prelude.{Bool, IfSome, IsOk, IsSome, IsTrue, Option, Some, None, ◌↔◌}
+use Rattle.lab_input.specs.Prelude.{ap, append-nil, append_assoc, arith, false, inl, inr, leb, length, List, refl, subst, sym, ℕ, ℤ, [], ◌%◌, ◌*◌, ◌++◌, ◌+◌}
+use Rattle.lab_input.specs.Prelude.{◌<◌, ◌∙◌, ◌≡◌, ◌≤◌, cases_lt, cond-false, cond-true, false_from_ne_true, le-leb, lt-leb, length-append, ForSome, Bool, Err}
+use Rattle.lab_input.specs.Prelude.{IfSome, IsOk, IsTrue, None, Ok, Option, Result, Some, ◌↔◌, Completes, Continues, HasTakenBytes, IsBeginning, known_of}
+use Rattle.lab_input.specs.Prelude.{plug_of, Stage, WavError, TooLong, IsOfHead, Raw, raw_file, raw_to_come, Reader, with_bytes, most_bytes, Sound, PlugReader}
+use Rattle.lab_input.specs.Prelude.{Shape, IsConverted, IsConverting, IsFed, IsSoFar, conversion_to, converted_file, converted_sound, IsShape, plug_file}
+use Rattle.lab_input.specs.Prelude.{short_enough, sound_file}
 use Rattle.std.proofs.Math.Nat.{mul-mod_left}
-use Rattle.std.specs.Option.{ForSome}
-use Rattle.lab_input.specs.declared.plug.PlugReader.{PlugReader}
-use Rattle.lab_input.specs.declared.shape.Shape.{Shape}
-use Rattle.lab_input.specs.Converting.{IsConverted, IsConverting, IsFed, IsSoFar}
-use Rattle.lab_input.specs.Plug.{IsShape, conversion_to, converted_sound, plug_file, converted_file, short_enough, sound_file}
 use Rattle.plug_chain.specs.Frames.{Conversion, frame_count}
 use Rattle.plug_chain.specs.Growth.{Appends}
-use Rattle.plug_chain.specs.Plugs.{Completes, Continues, HasTakenBytes, IsBeginning, IsStage, Stage, known_of, plug_of}
 use Rattle.plug_chain.specs.Rates.{AreRates, output_count}
 use Rattle.plug_chain.specs.Tables.{IsTable}
 use Rattle.plug_chain.proofs.Lengths.{known_of-nil, length-plug_of, length-plug_of-append, plug_of-nil}
-use Rattle.wav_io.specs.declared.error.WavError.{WavError}
-use Rattle.wav_io.specs.declared.error.WavError.TheVariants.{TooLong}
-use Rattle.wav_io.specs.Reading.{IsRefusal, most_bytes}
-use Rattle.wav_io.specs.Readers.{Reader, IsOfHead, Raw, raw_file, raw_to_come, with_bytes}
-use Rattle.wav_io.specs.Sound.{Sound}
 use Rattle.wav_io.proofs.Sizes.{length-raw_file}
 
 -- ---- the bytes of the samples

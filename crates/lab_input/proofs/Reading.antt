@@ -1,27 +1,14 @@
 -- A WAV file that is fetched and read piece by piece.
-use Rattle.std.proofs.Common.{◌≡◌, ◌≢◌, ℕ, ◌+◌, ◌<◌, ◌≤◌, ◌⊎◌, true, false, List, [], ◌++◌, length, sym, ap, subst, refl, inl, inr, ◌∙◌, arith, append_assoc, append-nil}
-use Rattle.std.proofs.lemmas.List.{length-append}
-use Rattle.std.specs.Prelude.{Bool, Option, Some, Result, Ok, Err}
+use Rattle.lab_input.specs.Prelude.{ap, arith, false, inl, inr, length, List, subst, sym, true, ℕ, [], ◌++◌, ◌+◌, ◌<◌, ◌∙◌, ◌≡◌, ◌≤◌, ◌⊎◌, ForSome, Bool, Err}
+use Rattle.lab_input.specs.Prelude.{Ok, Option, Result, Some, WavError, IsRefusal, most_bytes, Sound, Files, Stop, Cause, content_in, fetched_from, piece_bytes}
+use Rattle.lab_input.specs.Prelude.{wav_refused, ◌>>=◌, IsSameShelf, OnlyReads, FetchFaults, IsCauseOf, IsWavStop, Misses, NamesWav, Shape, FileReader, wav_in}
+use Rattle.lab_input.specs.Prelude.{with_weight, sound_file, weight, IsAfter}
 use Rattle.std.specs.Global.{Vec}
-use Rattle.std.specs.Option.{ForSome}
-use Rattle.lab_shelf.specs.declared.traits.Shelf as shelves
-use Rattle.lab_shelf.specs.Files.{Files}
-use Rattle.lab_stop.specs.declared.stop.Stop.{Stop}
 use Rattle.lab_stop.specs.declared.stop.Stop.TheVariants.{Wav, Memory}
-use Rattle.lab_stop.specs.Causes.{Cause, missing, wav_refused, content_in, fetched_from, piece_bytes, ◌>>=◌}
-use Rattle.lab_stop.specs.Effects.{IsSameShelf, OnlyReads}
 use Rattle.lab_stop.specs.Pieces.{IsFetched, IsBegun, IsFetched-next, IsFetched-rest, whole_refused}
-use Rattle.lab_stop.specs.Stops.{FetchFaults, IsCauseOf, IsWavStop, Misses, NamesWav}
-use Rattle.wav_io.specs.declared.error.WavError.{WavError}
-use Rattle.wav_io.specs.declared.error.WavError.TheVariants as wav_whys
-use Rattle.wav_io.specs.Reading.{IsRefusal, most_bytes}
-use Rattle.wav_io.specs.Sound.{Sound}
-use Rattle.lab_input.specs.declared.shape.Shape.{Shape}
-use Rattle.lab_input.specs.declared.sound.FileReader.{FileReader}
-use Rattle.lab_input.specs.Input.{as_sound, wav_in, with_weight}
-use Rattle.lab_input.specs.Plug.{sound_file, weight}
-use Rattle.lab_input.specs.Sound.{IsAfter}
 use Rattle.lab_input.proofs.Long.{sound_file-long, sound_file-refused}
+use Rattle.lab_shelf.specs.declared.traits.Shelf as shelves
+use Rattle.wav_io.specs.declared.error.WavError.TheVariants as wav_whys
 
 -- what a loop over the pieces keeps: the bytes that were read, and that they are the first of the file
 pub record Reading {S : Type 0} (H : shelves.Ghosts S) (old now : S) (name : List ℕ) (shape : Option Shape) (reader : FileReader)

@@ -1,20 +1,9 @@
 -- The sounds of clients, read one after the other.
-use Rattle.std.proofs.Common.{◌≡◌, ◌≤◌, ◌<◌, ◌+◌, ℕ, suc, sym, ap, ◌∙◌, refl, List, [], ◌∷◌, ◌++◌, drop, length, get_or, append_assoc, add-one, drop-cons}
-use Rattle.std.proofs.lemmas.List.{append-nil, drop_all}
-use Rattle.std.proofs.lemmas.List.{length-append}
-use Rattle.std.specs.Prelude.{Option, Some, Result, Ok, Err}
-use Rattle.std.specs.Option.{ForSome}
+use Rattle.lab_input.specs.Prelude.{add-one, ap, append-nil, append_assoc, drop, drop-cons, get_or, length, List, refl, suc, sym, ℕ, [], ◌++◌, ◌+◌, ◌<◌, ◌∙◌}
+use Rattle.lab_input.specs.Prelude.{◌∷◌, ◌≡◌, ◌≤◌, drop_all, length-append, ForSome, Err, Ok, Option, Result, Some, Sound, Files, ClientLine, Cause, ◌>>=◌}
+use Rattle.lab_input.specs.Prelude.{IsSameShelf, IsSameShelf-then, Shape, most_of_run, sound_in, sounds_in, shape_for}
 use Rattle.lab_lines.specs.declared.script.CardLine.{CardLine}
-use Rattle.lab_lines.specs.declared.script.ClientLine.{ClientLine}
-use Rattle.lab_input.specs.declared.shape.Shape.{Shape}
-use Rattle.lab_input.specs.Plug.{shape_for}
 use Rattle.lab_shelf.specs.declared.traits.Shelf as shelves
-use Rattle.lab_shelf.specs.Files.{Files}
-use Rattle.wav_io.specs.Sound.{Sound}
-use Rattle.lab_stop.specs.Causes.{Cause, ◌>>=◌}
-use Rattle.lab_stop.specs.Effects.{IsSameShelf}
-use Rattle.lab_stop.specs.ReadLaws.{IsSameShelf-then}
-use Rattle.lab_input.specs.Input.{most_of_run, sound_in, sounds_in}
 
 -- sounds that were read before others
 abbrev pub with_front : List Sound → Result (List Sound) Cause → Result (List Sound) Cause

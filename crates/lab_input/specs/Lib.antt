@@ -1,4 +1,5 @@
 pub mod Input
+pub mod Prelude
 pub mod Read
 pub mod Plug
 pub mod Converting

@@ -1,11 +1,7 @@
 -- Lines are appended to a text one by one.
-use Rattle.std.proofs.Common.{◌≡◌, ℕ, zero, suc, ◌+◌, List, [], ◌∷◌, ◌++◌, map, ap, sym, ◌∙◌, arith, zero-add, append_assoc}
-use Rattle.std.specs.List.{flat_map, range_with_len}
-use Rattle.std.proofs.lemmas.Grind.{flat_map-append}
-use Rattle.std.proofs.lemmas.List.{append-nil}
-use Rattle.std.proofs.lemmas.List.FromFn.{map-range_with_len_more}
-use Rattle.lab_make.specs.Lines.{all_turn_lines, card_words, client_lines, made_text, open_lines}
-use Rattle.text_words.specs.Lexing.{line_text, lines_text}
+use Rattle.lab_make.specs.Prelude.{ap, append_assoc, arith, List, map, suc, sym, zero, zero-add, ℕ, [], ◌++◌, ◌+◌, ◌∙◌, ◌∷◌, ◌≡◌, flat_map-append, append-nil}
+use Rattle.lab_make.specs.Prelude.{map-range_with_len_more, flat_map, range_with_len, line_text, lines_text, all_turn_lines, card_words, client_lines}
+use Rattle.lab_make.specs.Prelude.{made_text, open_lines}
 
 -- one line more
 pub lines_text-push : (f : ℕ → List (List ℕ)) (i : ℕ) (first old new : List ℕ) → old ≡ first ++ lines_text (map f (range_with_len 0 i))

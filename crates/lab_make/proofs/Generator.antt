@@ -1,11 +1,7 @@
 -- Steps of the generator add up, and give the samples one by one and the files one by one.
-use Rattle.std.proofs.Common.{◌≡◌, ℕ, ℤ, zero, suc, ◌+◌, ◌*◌, List, [], ◌∷◌, ◌++◌, map, ap, ◌∙◌, sym, suc-add, zero-add, arith}
-use Rattle.std.specs.List.{range_with_len}
-use Rattle.std.proofs.lemmas.List.FromFn.{map-range_with_len_more}
+use Rattle.lab_make.specs.Prelude.{ap, arith, List, map, suc, suc-add, sym, zero, zero-add, ℕ, ℤ, [], ◌*◌, ◌++◌, ◌+◌, ◌∙◌, ◌∷◌, ◌≡◌, map-range_with_len_more}
+use Rattle.lab_make.specs.Prelude.{range_with_len, multiplier_64, Sound, after_words, generator_of, made_sound, next_sample, sound_from}
 use Rattle.rand_pcg.specs.Lcg.{Lcg, advance, next, next_state, state_after}
-use Rattle.rand_pcg.specs.Pcg.{multiplier_64}
-use Rattle.wav_io.specs.Sound.{Sound}
-use Rattle.lab_make.specs.Files.{after_words, generator_of, made_sound, next_sample, sound_from}
 
 -- steps after other steps are as many steps as both
 pub state_after-add : (w m p a b s : ℕ) → state_after w m p b (state_after w m p a s) ≡ state_after w m p (a + b) s

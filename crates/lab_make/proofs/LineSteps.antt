@@ -1,20 +1,14 @@
 -- What a reader of scripts makes of one line: of lines of words that it takes.
-use Rattle.std.proofs.Common.{◌≡◌, ℕ, ◌+◌, true, false, ◌&&◌, ◌||◌, List, [], ◌∷◌, ◌++◌, length, codes, Some, None, Ok, nat_le, nat_lt, refl, arith}
-use Rattle.std.proofs.lemmas.Bool.Decides.{nat_tests}
-use Rattle.lab_lines.specs.declared.line.Actor.{Actor}
-use Rattle.lab_lines.specs.declared.line.Actor.TheVariants.{Card, Client}
-use Rattle.lab_lines.specs.declared.line.Item.TheVariants as item
+use Rattle.lab_make.specs.Prelude.{arith, codes, false, length, List, nat_le, nat_lt, None, Ok, refl, Some, true, ℕ, [], ◌&&◌, ◌++◌, ◌+◌, ◌||◌, ◌∷◌, ◌≡◌}
+use Rattle.lab_make.specs.Prelude.{nat_tests, Actor, Card, Client, is_file, is_name, actor_named, border_of, card_of, client_of, ends_lap, is_beside, State}
+use Rattle.lab_make.specs.Prelude.{with_end, with_line, with_open, with_phase, card_line, card_words, made_card}
+use Rattle.text_words.specs.Word.{number_of_word}
 use Rattle.lab_lines.specs.declared.line.Op.{Op}
-use Rattle.lab_lines.specs.declared.line.Op.TheVariants as op
-use Rattle.lab_script.specs.Draft.{State, card_of, client_of, border_of, ends_lap, is_beside, actor_named, with_end, with_line, with_open, with_phase}
+use Rattle.lab_lines.specs.Script.{is_of_card, is_unplug, played_by}
 use Rattle.lab_script.specs.Keys.{key_value}
 use Rattle.lab_script.specs.Ops.{op_of}
-use Rattle.lab_script.specs.Reading.{card_line}
-use Rattle.lab_lines.specs.Script.{is_of_card, is_unplug, played_by}
-use Rattle.lab_lines.specs.Names.{is_name, is_file}
-use Rattle.text_words.specs.Word.{number_of_word}
-use Rattle.lab_make.specs.Lines.{card_words}
-use Rattle.lab_make.specs.Script.{made_card}
+use Rattle.lab_lines.specs.declared.line.Item.TheVariants as item
+use Rattle.lab_lines.specs.declared.line.Op.TheVariants as op
 
 -- the card's line
 pub card_line-made : card_line 1 card_words ≡ Ok made_card

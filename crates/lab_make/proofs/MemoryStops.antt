@@ -1,10 +1,7 @@
 -- A part of a workload that isn't made for want of memory: nothing is done or written then, and it stops for memory alone.
-use Rattle.std.proofs.Common.{◌≡◌, ℕ, List, refl, inl, ap, ◌∙◌}
-use Rattle.std.specs.Prelude.{◌≢◌, Option, Result, Err, IsErrAnd, OnErr, OnOk}
-use Rattle.std.proofs.lemmas.Result.{err_from_is_err_and}
-use Rattle.lab_shelf.specs.Files.{Files, IsPartWritten}
+use Rattle.lab_make.specs.Prelude.{ap, inl, List, refl, ℕ, ◌∙◌, ◌≡◌, ◌≢◌, err_from_is_err_and, Err, IsErrAnd, OnErr, OnOk, Option, Result, Files, IsPartWritten}
+use Rattle.lab_make.specs.Prelude.{Memory, Write}
 use Rattle.lab_stop.specs.declared.stop.Stop.{Stop}
-use Rattle.lab_stop.specs.declared.stop.Stop.TheVariants.{Memory, Write}
 
 -- what a `?` returns where the stop that it hands on is one for memory
 pub Err-memory : {T : Type 0} (cause : Stop) (end : Result T Stop) → IsErrAnd end (λ stop. stop ≡ cause) → cause ≡ Memory → end ≡ Err Memory

@@ -1,14 +1,8 @@
 -- The names of clients and files, and the words of their lines.
-use Rattle.std.proofs.Common.{◌≡◌, ℕ, ◌<◌, ◌==◌, true, List, [], ◌∷◌, refl, ap, arith, bytes_eq}
-use Rattle.std.specs.Fmt.{digits}
-use Rattle.std.proofs.lemmas.Bool.Decides.{same_from_decides, Decides-eqb}
+use Rattle.lab_make.specs.Prelude.{ap, arith, bytes_eq, List, refl, true, ℕ, [], ◌<◌, ◌==◌, ◌∷◌, ◌≡◌, Decides-eqb, same_from_decides, decimal_injective, digits}
+use Rattle.lab_make.specs.Prelude.{is_plain_word-decimal, is_plain_line, is_plain_word, is_file, is_name, file_name, client_name, client_words, frames_written}
+use Rattle.lab_make.specs.Prelude.{open_words, write_words}
 use Rattle.std.proofs.lemmas.Slice.Eq.{bytes_eq-Decides}
-use Rattle.std.proofs.lemmas.Fmt.{decimal_injective}
-use Rattle.lab_lines.specs.Names.{is_name, is_file}
-use Rattle.lab_make.specs.Files.{file_name}
-use Rattle.lab_make.specs.Lines.{client_name, client_words, open_words, write_words, frames_written}
-use Rattle.text_words.proofs.Decimals.{is_plain_word-decimal}
-use Rattle.text_words.proofs.PlainLines.{is_plain_word, is_plain_line}
 use Rattle.lab_make.proofs.NumberTests.{below_test}
 
 -- the name of a client is a name

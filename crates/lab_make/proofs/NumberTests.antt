@@ -1,6 +1,5 @@
 -- Tests of the first numbers.
-use Rattle.std.proofs.Common.{◌≡◌, ℕ, zero, suc, ◌+◌, ◌<◌, Bool, true, refl, ap, sym, ◌∙◌, arith, add-zero, zero-add}
-use Rattle.std.specs.List.{list_all, range_with_len}
+use Rattle.lab_make.specs.Prelude.{add-zero, ap, arith, Bool, refl, suc, sym, true, zero, zero-add, ℕ, ◌+◌, ◌<◌, ◌∙◌, ◌≡◌, list_all, range_with_len}
 use Rattle.text_words.proofs.Tests.{both}
 
 -- a test that numbers from one on pass is passed by each

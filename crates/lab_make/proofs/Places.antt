@@ -1,8 +1,6 @@
 -- The first place of an element that is made from its number.
-use Rattle.std.proofs.Common.{◌≡◌, ℕ, zero, suc, ◌+◌, ◌<◌, Bool, true, false, not, cond, nat_lt, List, length, map, Some, None, refl, ap, sym, ◌∙◌, arith, add-zero, one-add}
-use Rattle.std.specs.List.{position, position_or_len, range_with_len}
-use Rattle.std.proofs.lemmas.Bool.Decides.{nat_tests}
-use Rattle.std.proofs.lemmas.List.FromFn.{length-map-range_with_len}
+use Rattle.lab_make.specs.Prelude.{add-zero, ap, arith, Bool, cond, false, length, List, map, nat_lt, None, not, one-add, refl, Some, suc, sym, true, zero, ℕ}
+use Rattle.lab_make.specs.Prelude.{◌+◌, ◌<◌, ◌∙◌, ◌≡◌, nat_tests, length-map-range_with_len, position, position_or_len, range_with_len}
 
 -- none passes
 position_or_len-none : {X : Type 0} (p : X → Bool) (f : ℕ → X) (a n : ℕ) → ((j : ℕ) → j < n → p (f (a + j)) ≡ false)

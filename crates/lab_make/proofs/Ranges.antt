@@ -1,10 +1,9 @@
 -- The number that digits mean, where it is in a range.
-use Rattle.std.proofs.Common.{◌≡◌, ℕ, ◌≤◌, Bool, true, false, ◌&&◌, cond, nat_le, List, Some, None, refl, ap, sym, ◌∙◌, arith}
+use Rattle.lab_make.specs.Prelude.{ap, arith, Bool, cond, false, List, nat_le, None, refl, Some, sym, true, ℕ, ◌&&◌, ◌∙◌, ◌≡◌, ◌≤◌, nat_tests, is_numeral}
+use Rattle.lab_make.specs.Prelude.{number_in, within}
 use Rattle.std.specs.Str.Parse.{digits_value}
-use Rattle.std.proofs.lemmas.Bool.Decides.{nat_tests}
 use Rattle.text_words.proofs.Within.{within-some}
 use Rattle.text_words.specs.Word as word
-use Rattle.lab_make.specs.Workload.{is_numeral, number_in, within}
 
 -- digits mean a number of a range
 number_in-digits : (least most : ℕ) (digits : List ℕ) → is_numeral digits ≡ true → number_in least most digits ≡ within least most (digits_value 10 digits)

@@ -1,31 +1,18 @@
 -- What is stored of a workload is what a run of it reads.
-use Rattle.std.proofs.Common.{◌≡◌, ◌≢◌, ℕ, zero, suc, ◌+◌, ◌*◌, ◌^◌, ◌<◌, ◌≤◌, Bool, true, false, List, [], ◌∷◌, ◌++◌, map, length, get_or, drop, take, refl, sym, ap, inl, inr, subst, arith, ◌∙◌}
-use Rattle.std.specs.Prelude.{All, Option, Some, None, Result, Ok, Err, codes, nat_le, nat_lt, slice_index_or, if◌then◌else◌}
-use Rattle.std.specs.Fmt.{decimal}
-use Rattle.std.specs.List.{range_with_len}
-use Rattle.std.specs.Option.{option_map}
-use Rattle.std.proofs.lemmas.Bool.{ltb-false}
-use Rattle.std.proofs.lemmas.Bool.Decides.{nat_tests}
-use Rattle.std.proofs.lemmas.Fmt.{decimal_injective}
-use Rattle.std.proofs.lemmas.List.{append_cancel_left, append_cancel_right, take_all}
+use Rattle.lab_make.specs.Prelude.{ap, arith, Bool, codes, drop, false, get_or, inl, inr, length, List, map, nat_le, nat_lt, None, Ok, refl, Some, subst, suc}
+use Rattle.lab_make.specs.Prelude.{take, true, zero, ℕ, [], ◌*◌, ◌++◌, ◌+◌, ◌<◌, ◌^◌, ◌∙◌, ◌∷◌, ◌≡◌, ◌≢◌, ◌≤◌, ltb-false, nat_tests, decimal_injective}
+use Rattle.lab_make.specs.Prelude.{append_cancel_left, append_cancel_right, take_all, decimal, range_with_len, option_map, All, Err, if◌then◌else◌, Option}
+use Rattle.lab_make.specs.Prelude.{Result, slice_index_or, canonical, Sound, bytes_under, bytes_under-with_file, bytes_under-with_file_other}
+use Rattle.lab_make.specs.Prelude.{bytes_under-with_file_same, Files, with_file, Script, ScriptError, script_of, file_name, IsMadeSound, made_sound}
+use Rattle.lab_make.specs.Prelude.{made_sounds, made_text, made_client, made_script, IsReadBack, made_input, script_name, sound_files, with_files}
+use Rattle.lab_make.specs.Prelude.{with_workload, IsWorkload}
 use Rattle.wav_io.specs.declared.error.WavError.{WavError}
 use Rattle.wav_io.specs.declared.error.WavError.TheVariants.{TooLong}
-use Rattle.wav_io.specs.Canonical.{canonical}
-use Rattle.lab_input.specs.Plug.{sound_file}
-use Rattle.wav_io.specs.Sound.{Sound}
-use Rattle.lab_shelf.specs.Files.{Files, bytes_under, with_file, bytes_under-with_file, bytes_under-with_file_same, bytes_under-with_file_other}
-use Rattle.lab_script.specs.declared.error.ScriptError.{ScriptError}
 use Rattle.lab_lines.specs.declared.script.CardLine.{CardLine}
-use Rattle.lab_lines.specs.declared.script.Script.{Script}
-use Rattle.lab_script.specs.Reading.{script_of}
-use Rattle.lab_stop.specs.Causes.{Cause, content_in, first_bytes, bytes_or_cause, ◌>>=◌}
+use Rattle.lab_stop.specs.Causes.{Cause, content_in, bytes_or_cause, ◌>>=◌}
 use Rattle.lab_input.specs.Input.{RunInput, as_script, capture_in, with_byte_count, input_in, most_of_run, script_in, sound_in, sounds_in, wav_in, with_weight, within_run}
+use Rattle.lab_input.specs.Plug.{sound_file}
 use Rattle.lab_make.specs.declared.workload.Workload.{Workload}
-use Rattle.lab_make.specs.Files.{IsMadeSound, file_name, made_sound, made_sounds}
-use Rattle.lab_make.specs.Lines.{made_text}
-use Rattle.lab_make.specs.Script.{made_client, made_script}
-use Rattle.lab_make.specs.Workload.{IsWorkload}
-use Rattle.lab_make.specs.Stored.{IsReadBack, made_input, script_name, sound_files, with_files, with_workload}
 use Rattle.lab_make.proofs.SoundSizes.{length-made}
 
 abbrev run_input : Script → Option Sound → List Sound → RunInput

@@ -1,27 +1,19 @@
 -- The text of a workload spells its script: the reader of scripts goes through its lines.
-use Rattle.std.proofs.Common.{◌≡◌, ℕ, zero, suc, ◌+◌, ◌*◌, ◌<◌, ◌≤◌, ◌==◌, true, false, List, [], ◌∷◌, ◌++◌, length, map, codes, Option, Some, None, option_map, Ok, nat_le, nat_lt, is_none, refl, ap, sym, ◌∙◌, arith, add-zero, zero-add}
-use Rattle.std.specs.List.{enumerate_from, position, range_with_len}
-use Rattle.std.specs.Fmt.{decimal, digits}
-use Rattle.std.proofs.lemmas.Bool.{false≢true}
-use Rattle.std.proofs.lemmas.Bool.Decides.{nat_tests, Decides-eqb}
-use Rattle.std.proofs.lemmas.List.FromFn.{length-map-range_with_len, map-range_with_len_more}
-use Rattle.lab_lines.specs.declared.line.Actor.{Actor}
-use Rattle.lab_lines.specs.declared.line.Actor.TheVariants.{Card, Client, Reader}
-use Rattle.lab_lines.specs.declared.line.Item.{Item}
-use Rattle.lab_lines.specs.declared.line.Line.{Line}
-use Rattle.lab_lines.specs.declared.line.Op.TheVariants as op
-use Rattle.lab_script.specs.Causes.{◌>>=◌}
-use Rattle.lab_script.specs.Draft.{State, ends_lap, inside, is_beside, is_client, is_reader, keywords, actor_named, or_else, unknown_inside, with_client, with_line, with_words}
+use Rattle.lab_make.specs.Prelude.{add-zero, ap, arith, codes, false, is_none, length, List, map, nat_le, nat_lt, None, Ok, refl, Some, suc, sym, true, zero}
+use Rattle.lab_make.specs.Prelude.{zero-add, ℕ, [], ◌*◌, ◌++◌, ◌+◌, ◌<◌, ◌==◌, ◌∙◌, ◌∷◌, ◌≡◌, ◌≤◌, false≢true, Decides-eqb, nat_tests}
+use Rattle.lab_make.specs.Prelude.{length-map-range_with_len, map-range_with_len_more, decimal, digits, enumerate_from, position, range_with_len, Option}
+use Rattle.lab_make.specs.Prelude.{number_of_word-decimal, Actor, Card, Client, Reader, Item, Line, actor_named, ends_lap, inside, is_beside, is_client}
+use Rattle.lab_make.specs.Prelude.{is_reader, keywords, or_else, State, unknown_inside, with_client, with_line, with_words, after, on_line, file_name}
+use Rattle.lab_make.specs.Prelude.{client_name, client_words, frames_written, open_words, write_words, made_card, made_client, made_opening, turn_line}
+use Rattle.lab_make.specs.Prelude.{write_line}
+use Rattle.std.proofs.Common.{option_map}
 use Rattle.text_words.specs.Table.{row_of}
-use Rattle.lab_script.specs.Reading.{after, on_line}
-use Rattle.lab_make.specs.Files.{file_name}
-use Rattle.lab_make.specs.Lines.{client_name, client_words, frames_written, open_words, write_words}
-use Rattle.lab_make.specs.Script.{made_card, made_client, made_opening, turn_line, write_line}
+use Rattle.lab_script.specs.Causes.{◌>>=◌}
 use Rattle.lab_make.proofs.LineSteps.{IsTaken, client_of-plain, op_of-play, op_of-write, with_line-plain, with_open-plain, with_phase-plain}
-use Rattle.text_words.proofs.Decimals.{number_of_word-decimal}
 use Rattle.lab_make.proofs.Names.{client_name-is_name, client_name-same, file_name-is_file, frames_written-lt}
-use Rattle.lab_make.proofs.Places.{position-first, position-none}
 use Rattle.lab_make.proofs.NumberTests.{below_test}
+use Rattle.lab_make.proofs.Places.{position-first, position-none}
+use Rattle.lab_lines.specs.declared.line.Op.TheVariants as op
 
 -- outside a phase: so many clients are declared, these items are done, and so many turns
 abbrev pub outside_of : ℕ → List Item → ℕ → State

@@ -1,6 +1,5 @@
 -- What is made isn't there where memory ran out.
-use Rattle.std.specs.Prelude.{IfOk, IsErrAnd, Result}
-use Rattle.std.proofs.lemmas.Result.{err_from_is_err_and}
+use Rattle.lab_make.specs.Prelude.{err_from_is_err_and, IfOk, IsErrAnd, Result}
 
 -- an answer that is an error has nothing of what is asked of a value
 pub IfOk-err : {T E : Type 0} (P : T → Type 0) (Q : E → Type 0) (answer : Result T E) → IsErrAnd answer Q → IfOk answer P

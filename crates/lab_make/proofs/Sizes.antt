@@ -1,14 +1,9 @@
 -- A workload's text isn't too long for a script, and its lines are plain.
-use Rattle.std.proofs.Common.{◌≡◌, ℕ, zero, suc, ◌+◌, ◌*◌, ◌<◌, ◌≤◌, true, nat_le, List, [], ◌∷◌, ◌++◌, length, map, refl, ap, sym, ◌∙◌, arith, add-zero, length-append, codes}
-use Rattle.std.specs.List.{flat_map, list_all, range_with_len}
-use Rattle.std.specs.Fmt.{decimal, digits}
-use Rattle.std.proofs.lemmas.Bool.Decides.{nat_tests}
-use Rattle.std.proofs.lemmas.Fmt.{length-decimal-le}
-use Rattle.std.proofs.lemmas.Grind.{flat_map-append}
+use Rattle.lab_make.specs.Prelude.{add-zero, ap, arith, codes, length, length-append, List, map, nat_le, refl, suc, sym, true, zero, ℕ, [], ◌*◌, ◌++◌, ◌+◌, ◌<◌}
+use Rattle.lab_make.specs.Prelude.{◌∙◌, ◌∷◌, ◌≡◌, ◌≤◌, nat_tests, length-decimal-le, flat_map-append, decimal, digits, flat_map, list_all, range_with_len}
+use Rattle.lab_make.specs.Prelude.{line_text, lines_text, is_plain_line, all_turn_lines, card_words, client_lines, client_name, client_words, frames_written}
+use Rattle.lab_make.specs.Prelude.{made_lines, made_text, open_lines, open_words, play_lines, turn_lines, write_lines, write_words}
 use Rattle.std.proofs.lemmas.List.Folds.{list_all-append, list_all-map}
-use Rattle.lab_make.specs.Lines.{all_turn_lines, card_words, client_lines, client_name, client_words, frames_written, made_lines, made_text, open_lines, open_words, play_lines, turn_lines, write_lines, write_words}
-use Rattle.text_words.specs.Lexing.{line_text, lines_text}
-use Rattle.text_words.proofs.PlainLines.{is_plain_line}
 use Rattle.lab_make.proofs.Names.{client_words-plain, frames_written-lt, open_words-plain, write_words-plain}
 use Rattle.lab_make.proofs.NumberTests.{below_test, range_all}
 

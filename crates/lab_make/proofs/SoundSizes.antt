@@ -1,10 +1,6 @@
 -- How many bytes the WAV files of clients have.
-use Rattle.std.proofs.Common.{◌≡◌, ◌≤◌, length, arith}
+use Rattle.lab_make.specs.Prelude.{arith, length, ◌≡◌, ◌≤◌, canonical, most_bytes, Sound, IsMadeSound}
 use Rattle.lab_output.specs.FileLaws.{length-canonical}
-use Rattle.wav_io.specs.Canonical.{canonical}
-use Rattle.wav_io.specs.Reading.{most_bytes}
-use Rattle.wav_io.specs.Sound.{Sound}
-use Rattle.lab_make.specs.Files.{IsMadeSound}
 
 -- a client's file has 16,428 bytes
 pub length-made : (s : Sound) → IsMadeSound s → length (canonical s) ≡ 16428

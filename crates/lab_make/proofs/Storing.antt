@@ -1,18 +1,12 @@
 -- The clients' files are stored one after the other.
-use Rattle.std.proofs.Common.{◌≡◌, inl, inr, ℕ, ◌+◌, ◌<◌, ◌≤◌, List, [], ◌∷◌, length, add-one, drop, take, get_or, refl, sym, ap, subst, ◌∙◌, suc, Some, None, option_map}
-use Rattle.std.proofs.Math.Seq.{drop-cons}
+use Rattle.lab_make.specs.Prelude.{add-one, ap, drop, get_or, inl, inr, length, List, None, refl, Some, subst, suc, sym, take, ℕ, [], ◌+◌, ◌<◌, ◌∙◌, ◌∷◌, ◌≡◌}
+use Rattle.lab_make.specs.Prelude.{◌≤◌, take_all, All-more, All, Option, canonical, Sound, Files, IsPartWritten, with_file, CountsNoFault-then, file_name}
+use Rattle.lab_make.specs.Prelude.{IsReadBack, NamedFile, script_name, sound_files, StoredInPart, with_files, with_input}
+use Rattle.std.proofs.Common.{option_map}
 use Rattle.std.proofs.Math.ListN.{drop_of_length-le}
-use Rattle.std.proofs.lemmas.List.{take_all}
-use Rattle.std.proofs.lemmas.List.Elements.{All-more}
-use Rattle.std.specs.Prelude.{All, Option}
-use Rattle.wav_io.specs.Canonical.{canonical}
-use Rattle.wav_io.specs.Sound.{Sound}
-use Rattle.lab_shelf.specs.declared.traits.Shelf as shelves
-use Rattle.lab_shelf.specs.Files.{Files, IsPartWritten, with_file}
-use Rattle.lab_stop.specs.EffectLaws.{CountsNoFault-then}
+use Rattle.std.proofs.Math.Seq.{drop-cons}
 use Rattle.lab_stop.specs.Effects.{CountsNoFault}
-use Rattle.lab_make.specs.Files.{file_name}
-use Rattle.lab_make.specs.Stored.{IsReadBack, NamedFile, StoredInPart, script_name, sound_files, with_files, with_input}
+use Rattle.lab_shelf.specs.declared.traits.Shelf as shelves
 
 -- the first files are stored, and what is left to do does all
 pub record Storing {S : Type 0} (H : shelves.Ghosts S) (before now : S) (sounds : List Sound) (n : ℕ) : Type 0 where

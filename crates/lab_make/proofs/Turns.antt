@@ -1,23 +1,15 @@
 -- The turns of a workload, one after the other, and its whole text.
-use Rattle.std.proofs.Common.{◌≡◌, ℕ, zero, suc, ◌+◌, ◌-◌, ◌*◌, ◌<◌, ◌≤◌, false, List, [], ◌∷◌, ◌++◌, length, map, codes, cond, None, Result, Ok, Err, nat_lt, refl, ap, sym, ◌∙◌, arith, add-zero, zero-add, append_assoc}
-use Rattle.std.specs.List.{enumerate_from, flat_map, range_with_len}
-use Rattle.std.proofs.lemmas.List.{append-nil}
-use Rattle.lab_script.specs.declared.error.ScriptError.{ScriptError}
-use Rattle.lab_script.specs.declared.error.ScriptWhy.TheVariants as why
-use Rattle.lab_lines.specs.declared.line.Actor.TheVariants.{Card}
-use Rattle.lab_lines.specs.declared.line.Item.{Item}
-use Rattle.lab_lines.specs.declared.line.Item.TheVariants as item
-use Rattle.lab_lines.specs.declared.line.Line.{Line}
-use Rattle.lab_lines.specs.declared.line.Op.TheVariants as op
-use Rattle.lab_script.specs.Draft.{State, card_alone}
-use Rattle.text_words.specs.Lexing.{word_lines}
-use Rattle.lab_script.specs.Reading.{after, on_line, refusal_at, script_at, script_of, script_of_lines}
-use Rattle.lab_make.specs.Lines.{all_turn_lines, client_lines, made_lines, made_text, open_lines, play_lines, turn_lines, write_lines}
-use Rattle.lab_make.specs.Script.{made_card, made_client, made_script, turn_items, turn_line}
+use Rattle.lab_make.specs.Prelude.{add-zero, ap, append_assoc, arith, codes, cond, false, length, List, map, nat_lt, None, Ok, refl, suc, sym, zero, zero-add}
+use Rattle.lab_make.specs.Prelude.{ℕ, [], ◌*◌, ◌++◌, ◌+◌, ◌-◌, ◌<◌, ◌∙◌, ◌∷◌, ◌≡◌, ◌≤◌, append-nil, enumerate_from, flat_map, range_with_len, Err, Result}
+use Rattle.lab_make.specs.Prelude.{word_lines, lines_from-lines_text, Card, Item, Line, ScriptError, card_alone, State, after, on_line, refusal_at, script_at}
+use Rattle.lab_make.specs.Prelude.{script_of, script_of_lines, all_turn_lines, client_lines, made_lines, made_text, open_lines, play_lines, turn_lines}
+use Rattle.lab_make.specs.Prelude.{write_lines, made_card, made_client, made_script, turn_items, turn_line}
 use Rattle.lab_make.proofs.LineSteps.{card_line-made, with_end-plain}
-use Rattle.text_words.proofs.PlainLines.{lines_from-lines_text}
 use Rattle.lab_make.proofs.Reading.{after-clients, after-opens, after-step, after-writes, inside_of, nat_lt-le, openings, outside_of, with_words-phase, with_words-play, written}
 use Rattle.lab_make.proofs.Sizes.{length-made_text, made_lines-plain}
+use Rattle.lab_script.specs.declared.error.ScriptWhy.TheVariants as why
+use Rattle.lab_lines.specs.declared.line.Item.TheVariants as item
+use Rattle.lab_lines.specs.declared.line.Op.TheVariants as op
 
 -- the state after a turn whose second phase has its line on this number
 abbrev turned : ℕ → List Item → ℕ → ℕ → ℕ → ℕ → State

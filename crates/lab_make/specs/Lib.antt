@@ -1,4 +1,5 @@
 pub mod Files
+pub mod Prelude
 pub mod Workload
 pub mod Lines
 pub mod Script

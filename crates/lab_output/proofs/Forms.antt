@@ -1,14 +1,7 @@
 -- The forms of an output's bytes: how they become one another, and which of them a run that stopped may leave.
-use Rattle.std.proofs.Common.{◌≡◌, inl, inr, ℕ, ◌<◌, ◌≤◌, List, [], ◌∷◌, ◌++◌, length, take, drop, get_or, arith, refl, sym, ap, subst, ◌∙◌, suc, zero}
-use Rattle.std.proofs.Math.Seq.{take-length, drop-append_seam}
-use Rattle.std.proofs.lemmas.List.{append-nil, length-take-le}
-use Rattle.std.specs.Prelude.{ℤ}
-use Rattle.std.specs.List.{flat_map}
-use Rattle.wav_io.specs.Canonical.{sample_bytes}
-use Rattle.lab_shelf.specs.Files.{with_first_bytes}
-use Rattle.lab_output.specs.declared.file.OutputFile.{OutputFile}
-use Rattle.lab_output.specs.Files.{open_head_of, head_of, open_file, finished_file, IsFormOf, MayHold}
-use Rattle.lab_output.specs.GoingLaws.{AllForms}
+use Rattle.lab_output.specs.Prelude.{ap, arith, drop, get_or, inl, inr, length, List, refl, subst, suc, sym, take, zero, ℕ, [], ◌++◌, ◌<◌, ◌∙◌, ◌∷◌, ◌≡◌, ◌≤◌}
+use Rattle.lab_output.specs.Prelude.{drop-append_seam, take-length, append-nil, length-take-le, flat_map, ℤ, sample_bytes, with_first_bytes, OutputFile}
+use Rattle.lab_output.specs.Prelude.{finished_file, head_of, IsFormOf, MayHold, open_file, open_head_of, AllForms}
 
 -- an open head has 44 bytes
 pub length-open_head : (output : OutputFile) → length (open_head_of output) ≡ 44

@@ -1,20 +1,15 @@
 -- A run's files from call to call.
-use Rattle.std.proofs.Common.{◌≡◌, inl, inr, ℕ, ◌<◌, ◌≤◌, List, [], ◌∷◌, ◌++◌, length, length-append, take, drop, map, get_or, arith, refl, sym, ap, subst, ◌∙◌, suc, zero, Some, None, option_map}
-use Rattle.std.proofs.Math.ListN.{set, length-set}
-use Rattle.std.specs.Prelude.{ℤ, Option, All, IfSome, Result, Ok, Err, OnOk, OnErr}
-use Rattle.std.specs.List.{flat_map}
-use Rattle.std.specs.Option.{option_map_or}
-use Rattle.std.proofs.lemmas.List.{get_or-set_same}
-use Rattle.wav_io.specs.Canonical.{sample_bytes}
-use Rattle.lab_shelf.specs.Files.{Files, bytes_under, with_file, with_change, with_first_bytes, IsPartAppended, IsPartFinished}
+use Rattle.lab_output.specs.Prelude.{ap, arith, drop, get_or, inl, inr, length, length-append, List, map, None, option_map, refl, Some, subst, suc, sym, take}
+use Rattle.lab_output.specs.Prelude.{zero, ℕ, [], ◌++◌, ◌<◌, ◌∙◌, ◌∷◌, ◌≡◌, ◌≤◌, length-set, set, get_or-set_same, flat_map, option_map_or, All, Err, IfSome}
+use Rattle.lab_output.specs.Prelude.{Ok, OnErr, OnOk, Option, Result, ℤ, sample_bytes, bytes_under, Files, IsPartAppended, IsPartFinished, with_change}
+use Rattle.lab_output.specs.Prelude.{with_file, with_first_bytes, OutputFile, AreApart, finished_file, finished_files, head_of, IsFormOf, MayHold, nothing}
+use Rattle.lab_output.specs.Prelude.{open_file, open_head_of, unfinished_files, AreLonger, closed_files, ClosedInPart, HaveHeadRoom, IsGoingOn, IsPartOf}
+use Rattle.lab_output.specs.Prelude.{opened_files, OpenedInPart, AreLonger-forms, Into, IsGoingOn-Changes, open_file-more, with_outputs-Changes}
+use Rattle.lab_output.specs.Prelude.{written-Changes}
 use Rattle.lab_shelf.specs.Changes.{Changes, Changes-nothing, Changes-then, Changes-with_file, Changes-part}
-use Rattle.lab_output.specs.declared.file.OutputFile.{OutputFile}
-use Rattle.lab_output.specs.Files.{AreApart, unfinished_files, finished_files, nothing, open_head_of, head_of, open_file, finished_file, IsFormOf, MayHold}
-use Rattle.lab_output.specs.Going.{opened_files, OpenedInPart, closed_files, ClosedInPart, HaveHeadRoom, AreLonger, IsPartOf, IsGoingOn}
-use Rattle.lab_output.specs.GoingLaws.{AreLonger-forms, IsGoingOn-Changes, Into, open_file-more, with_outputs-Changes, written-Changes}
-use Rattle.lab_output.proofs.Shelves.{changed-first, changed-output, bytes_under-with_outputs}
 use Rattle.lab_output.proofs.Forms.{length-open_head, AllForms-open, AllForms-finished, IsFormOf-head, IsFormOf-opened, IsFormOf-closing, IsFormOf-finished, MayHold-at, open_file-nothing, finished_file-made}
 use Rattle.lab_output.proofs.Longer.{longer-at, longer-before, longer-form, longer-length}
+use Rattle.lab_output.proofs.Shelves.{changed-first, changed-output, bytes_under-with_outputs}
 
 -- outputs that were begun have an open head and no sample
 opened_files-begun : (outputs : List OutputFile) (m : Files) → opened_files outputs m ≡ unfinished_files outputs (nothing outputs) m

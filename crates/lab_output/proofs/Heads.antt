@@ -1,15 +1,7 @@
 -- The channels and rates of a run's files are such as a head can hold.
-use Rattle.std.proofs.Common.{ℕ, ◌≡◌, List, [], ◌∷◌, map, arith, sym, subst}
-use Rattle.std.specs.Prelude.{All}
-use Rattle.std.specs.List.{AllByRecursion}
-use Rattle.std.proofs.lemmas.List.Elements.{All-from_recursion, recursion_from_All}
-use Rattle.lab_lines.specs.declared.script.CardLine.{CardLine}
-use Rattle.lab_lines.specs.declared.script.ReaderLine.{ReaderLine}
-use Rattle.lab_lines.specs.declared.script.Script.{Script}
-use Rattle.lab_lines.specs.Limits.{IsScript, IsCardLine, IsReaderLine}
+use Rattle.lab_output.specs.Prelude.{arith, List, map, subst, sym, ℕ, [], ◌∷◌, ◌≡◌, All-from_recursion, recursion_from_All, AllByRecursion, All, CardLine}
+use Rattle.lab_output.specs.Prelude.{ReaderLine, Script, IsCardLine, IsReaderLine, IsScript, IsOutputFile, output_files, recorded_file, FitsWavFile}
 use Rattle.lab_output.specs.FileLaws.{IsOutputFile-played, IsOutputFile-recorded}
-use Rattle.lab_output.specs.Files.{IsOutputFile, output_files, recorded_file}
-use Rattle.lab_output.specs.Going.{FitsWavFile}
 
 -- a head can hold the channels and rate of each reader's file
 recorded-heads : (card : CardLine) (out : List ℕ) (readers : List ReaderLine) → IsCardLine card

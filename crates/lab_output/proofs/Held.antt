@@ -1,16 +1,12 @@
 -- The outputs of a run that goes on are held, so that over a reliable shelf no call finds one missing.
-use Rattle.std.proofs.Common.{◌≡◌, ◌≢◌, ℕ, ◌<◌, Bool, true, false, cond, List, [], ◌∷◌, length, get_or, arith, refl, sym, ap, subst, ◌∙◌, zero, Some, None, option_map}
-use Rattle.std.proofs.lemmas.List.Elements.{All-from_recursion}
-use Rattle.std.specs.Prelude.{ℤ, Option, IfSome, IsErrAnd, IsErrOf, IsSome, Result, Ok, Err}
-use Rattle.std.specs.Option.{option_map_or}
+use Rattle.lab_output.specs.Prelude.{ap, arith, Bool, cond, false, get_or, length, List, None, option_map, refl, Some, subst, sym, true, zero, ℕ, [], ◌<◌, ◌∙◌}
+use Rattle.lab_output.specs.Prelude.{◌∷◌, ◌≡◌, ◌≢◌, All-from_recursion, option_map_or, Err, IfSome, IsErrAnd, IsErrOf, IsSome, Ok, Option, Result, ℤ}
+use Rattle.lab_output.specs.Prelude.{bytes_under, Files, with_change, with_file, OutputFile, AreApart, open_file, unfinished_files, HasFile, HaveFiles}
+use Rattle.lab_output.specs.Prelude.{IsGoingOn}
 use Rattle.lab_shelf.specs.declared.fault.ShelfFault.{ShelfFault}
 use Rattle.lab_shelf.specs.declared.fault.ShelfFault.TheVariants.{Failed}
-use Rattle.lab_shelf.specs.Files.{Files, bytes_under, with_file, with_change}
 use Rattle.lab_stop.specs.declared.stop.Stop.{Stop}
 use Rattle.lab_stop.specs.declared.stop.Stop.TheVariants.{Write}
-use Rattle.lab_output.specs.declared.file.OutputFile.{OutputFile}
-use Rattle.lab_output.specs.Files.{AreApart, unfinished_files, open_file}
-use Rattle.lab_output.specs.Going.{HasFile, HaveFiles, IsGoingOn}
 use Rattle.lab_output.proofs.Shelves.{bytes_under-with_outputs, bytes_under-with_file_at, test}
 
 -- a file that was written is there, and so are those that were

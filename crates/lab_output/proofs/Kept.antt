@@ -1,14 +1,9 @@
 -- Outputs have their samples still, whatever a finish answers.
-use Rattle.std.proofs.Common.{◌≡◌, inl, inr, ℕ, ◌≤◌, Bool, true, false, cond, List, [], ◌∷◌, ◌++◌, length, length-append, take, drop, arith, append_assoc, refl, sym, ap, subst, ◌∙◌, zero, Some, None, option_map}
-use Rattle.std.proofs.lemmas.List.{append-nil, drop-append-le, length-drop, length-take-le}
-use Rattle.std.specs.Prelude.{ℤ, Option, IsSomeAnd, Result, Ok, Err, OnOk, OnErr}
-use Rattle.std.specs.List.{flat_map}
-use Rattle.std.specs.Option.{option_map_or}
-use Rattle.wav_io.specs.Canonical.{sample_bytes}
-use Rattle.lab_shelf.specs.Files.{Files, bytes_under, with_file, with_change, with_first_bytes, IsPartFinished, name_test-Decides}
-use Rattle.lab_output.specs.declared.file.OutputFile.{OutputFile}
-use Rattle.lab_output.specs.Files.{AreApart, unfinished_files, open_file, open_head_of, head_of}
-use Rattle.lab_output.specs.Going.{ClosedInPart, HasSamples, HaveSamples, IsGoingOn, KeepSamples, closed_files}
+use Rattle.lab_output.specs.Prelude.{ap, append_assoc, arith, Bool, cond, drop, false, inl, inr, length, length-append, List, None, option_map, refl, Some}
+use Rattle.lab_output.specs.Prelude.{subst, sym, take, true, zero, ℕ, [], ◌++◌, ◌∙◌, ◌∷◌, ◌≡◌, ◌≤◌, append-nil, drop-append-le, length-drop, length-take-le}
+use Rattle.lab_output.specs.Prelude.{flat_map, option_map_or, Err, IsSomeAnd, Ok, OnErr, OnOk, Option, Result, ℤ, sample_bytes, bytes_under, Files}
+use Rattle.lab_output.specs.Prelude.{IsPartFinished, name_test-Decides, with_change, with_file, with_first_bytes, OutputFile, AreApart, head_of, open_file}
+use Rattle.lab_output.specs.Prelude.{open_head_of, unfinished_files, closed_files, ClosedInPart, HasSamples, HaveSamples, IsGoingOn, KeepSamples}
 use Rattle.lab_output.proofs.Forms.{length-head, length-open_head}
 use Rattle.lab_output.proofs.Shelves.{bytes_under-with_file_at, bytes_under-with_outputs, test}
 

@@ -1,16 +1,8 @@
 -- Outputs that have more samples than they had.
-use Rattle.std.proofs.Common.{◌≡◌, inl, ℕ, List, [], ◌∷◌, length, take, drop, get_or, arith, refl, sym, ap, ◌∙◌, suc, zero}
-use Rattle.std.proofs.Math.ListN.{set}
-use Rattle.std.proofs.Math.Seq.{take-append_seam}
+use Rattle.lab_output.specs.Prelude.{ap, arith, drop, get_or, inl, length, List, refl, suc, sym, take, zero, ℕ, [], ◌∙◌, ◌∷◌, ◌≡◌, set, take-append_seam}
+use Rattle.lab_output.specs.Prelude.{length-take, take-take, take_min, flat_map, min, ℤ, sample_bytes, OutputFile, IsFormOf, open_file, AreLonger, IsPartOf}
+use Rattle.lab_output.specs.Prelude.{open_file-more}
 use Rattle.std.proofs.Math.Nat.{min-le_left, min-le_right}
-use Rattle.std.proofs.lemmas.List.{length-take, take-take, take_min}
-use Rattle.std.specs.Prelude.{ℤ, min}
-use Rattle.std.specs.List.{flat_map}
-use Rattle.wav_io.specs.Canonical.{sample_bytes}
-use Rattle.lab_output.specs.declared.file.OutputFile.{OutputFile}
-use Rattle.lab_output.specs.Files.{open_file, IsFormOf}
-use Rattle.lab_output.specs.Going.{AreLonger, IsPartOf}
-use Rattle.lab_output.specs.GoingLaws.{open_file-more}
 
 -- the first of the first of a list are some first of it
 take-twice : {A : Type 0} (k j : ℕ) (xs : List A) → (n : ℕ) × (take k (take j xs) ≡ take n xs)

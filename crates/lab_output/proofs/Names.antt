@@ -1,14 +1,7 @@
 -- The names of a run's files differ.
-use Rattle.std.proofs.Common.{◌≡◌, ◌≢◌, ℕ, ◌+◌, ◌<◌, List, [], ◌∷◌, ◌++◌, length, length-append, append_assoc, map, get_or, arith, ap, ◌∙◌, suc}
-use Rattle.std.specs.Prelude.{codes}
-use Rattle.std.specs.List.{AllPairs, AllByRecursion}
-use Rattle.std.proofs.lemmas.List.{append_cancel_left, append_cancel_right}
-use Rattle.lab_lines.specs.declared.script.CardLine.{CardLine}
-use Rattle.lab_lines.specs.declared.script.ReaderLine.{ReaderLine}
-use Rattle.lab_lines.specs.declared.script.Script.{Script}
-use Rattle.lab_lines.specs.Limits.{IsScript}
-use Rattle.lab_output.specs.declared.file.OutputFile.{OutputFile}
-use Rattle.lab_output.specs.Files.{AreApart, output_files, played_name, recorded_file, recorded_name}
+use Rattle.lab_output.specs.Prelude.{ap, append_assoc, arith, get_or, length, length-append, List, map, suc, ℕ, [], ◌++◌, ◌+◌, ◌<◌, ◌∙◌, ◌∷◌, ◌≡◌, ◌≢◌}
+use Rattle.lab_output.specs.Prelude.{append_cancel_left, append_cancel_right, AllByRecursion, AllPairs, codes, CardLine, ReaderLine, Script, IsScript}
+use Rattle.lab_output.specs.Prelude.{OutputFile, AreApart, output_files, played_name, recorded_file, recorded_name}
 
 -- the file with what the card played has no reader's name
 played-apart : (out name : List ℕ) → played_name out ≢ recorded_name out name

@@ -1,11 +1,5 @@
 -- The lines of a report's rows from a number on.
-use Rattle.std.proofs.Common.{◌≡◌, ℕ, ◌-◌, List, length, drop, take, arith, ap}
-use Rattle.std.proofs.lemmas.List.{length-drop, take_all}
-use Rattle.std.specs.List.{flat_map}
-use Rattle.lab_lines.specs.declared.script.Script.{Script}
-use Rattle.lab_lines.specs.declared.row.Row.{Row}
-use Rattle.lab_report.specs.Text.{row_line}
-use Rattle.lab_output.specs.Text.{rows_text}
+use Rattle.lab_output.specs.Prelude.{ap, arith, drop, length, List, take, ℕ, ◌-◌, ◌≡◌, length-drop, take_all, flat_map, Row, Script, row_line, rows_text}
 
 -- the lines of a slice of the rows from a number on
 pub rows_text-slice : (script : Script) (from : ℕ) (rows : List Row)

@@ -1,16 +1,11 @@
 -- What writes to a run's files leave: of the files as they were before, and of each output its samples.
-use Rattle.std.proofs.Common.{◌≡◌, ◌≢◌, ℕ, ◌<◌, Bool, true, false, cond, List, [], ◌∷◌, ◌++◌, length, get_or, arith, refl, sym, ap, subst, ◌∙◌, suc, zero, Some, None, option_map}
-use Rattle.std.proofs.Math.ListN.{set}
-use Rattle.std.proofs.lemmas.List.{append-nil}
-use Rattle.std.specs.Prelude.{ℤ, Option}
-use Rattle.std.specs.List.{AllByRecursion}
-use Rattle.std.specs.Option.{option_map_or}
-use Rattle.std.specs.Ordering.{nat_cmp, eq_by_cmp}
+use Rattle.lab_output.specs.Prelude.{ap, arith, Bool, cond, false, get_or, length, List, None, option_map, refl, Some, subst, suc, sym, true, zero, ℕ, [], ◌++◌}
+use Rattle.lab_output.specs.Prelude.{◌<◌, ◌∙◌, ◌∷◌, ◌≡◌, ◌≢◌, set, append-nil, AllByRecursion, option_map_or, Option, ℤ, bytes_under}
+use Rattle.lab_output.specs.Prelude.{bytes_under-with_file_other, bytes_under-with_file_same, Files, name_test-Decides, with_change, with_file, OutputFile}
+use Rattle.lab_output.specs.Prelude.{AreApart, with_outputs}
 use Rattle.std.specs.Cmp.Lexicographic.{slice_cmp, nat_list_cmp_total}
 use Rattle.std.specs.FinMap.{same_map, get-insert, nat_cmp-IsAntisymmetric, slice_cmp-IsAntisymmetric}
-use Rattle.lab_shelf.specs.Files.{Files, bytes_under, with_file, with_change, bytes_under-with_file_same, bytes_under-with_file_other, name_test-Decides}
-use Rattle.lab_output.specs.declared.file.OutputFile.{OutputFile}
-use Rattle.lab_output.specs.Files.{AreApart, with_outputs}
+use Rattle.std.specs.Ordering.{nat_cmp, eq_by_cmp}
 
 -- whether two names are one, as the map tests it
 abbrev pub test : List ℕ → List ℕ → Bool

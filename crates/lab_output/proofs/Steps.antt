@@ -1,20 +1,13 @@
 -- A run's files one after the other.
-use Rattle.std.proofs.Common.{◌≡◌, inl, inr, ℕ, Bool, true, false, cond, ◌+◌, ◌<◌, ◌≤◌, List, [], ◌∷◌, length, length-append, add-one, drop, get_or, arith, refl, sym, ap, subst, ◌∙◌, suc, Some, None, option_map}
-use Rattle.std.proofs.Math.Seq.{drop-cons}
-use Rattle.std.proofs.Math.ListN.{drop_of_length-le}
-use Rattle.std.proofs.lemmas.List.{length-drop}
-use Rattle.std.proofs.lemmas.List.Elements.{All-from_recursion}
-use Rattle.lab_output.proofs.Shelves.{bytes_under-with_file_at, test}
-use Rattle.std.specs.Prelude.{Option, IfSome}
-use Rattle.std.specs.Option.{option_map_or}
-use Rattle.lab_shelf.specs.declared.traits.Shelf as shelves
-use Rattle.lab_shelf.specs.Files.{Files, bytes_under, with_file, with_change, with_first_bytes, IsPartWritten, IsPartFinished}
-use Rattle.lab_stop.specs.EffectLaws.{CountsNoFault-then}
+use Rattle.lab_output.specs.Prelude.{add-one, ap, arith, Bool, cond, drop, false, get_or, inl, inr, length, length-append, List, None, option_map, refl, Some}
+use Rattle.lab_output.specs.Prelude.{subst, suc, sym, true, ℕ, [], ◌+◌, ◌<◌, ◌∙◌, ◌∷◌, ◌≡◌, ◌≤◌, drop_of_length-le, drop-cons, length-drop, All-from_recursion}
+use Rattle.lab_output.specs.Prelude.{option_map_or, IfSome, Option, bytes_under, Files, IsPartFinished, IsPartWritten, with_change, with_file, with_first_bytes}
+use Rattle.lab_output.specs.Prelude.{CountsNoFault-then, OutputFile, head_of, open_head_of, closed_files, ClosedInPart, HasHeadRoom, HaveFiles, HaveHeadRoom}
+use Rattle.lab_output.specs.Prelude.{opened_files, OpenedInPart}
 use Rattle.lab_stop.specs.Effects.{CountsNoFault}
-use Rattle.lab_output.specs.declared.file.OutputFile.{OutputFile}
-use Rattle.lab_output.specs.Files.{open_head_of, head_of}
-use Rattle.lab_output.specs.Going.{opened_files, OpenedInPart, closed_files, ClosedInPart, HasHeadRoom, HaveFiles, HaveHeadRoom}
 use Rattle.lab_output.proofs.Held.{changed-files}
+use Rattle.lab_output.proofs.Shelves.{bytes_under-with_file_at, test}
+use Rattle.lab_shelf.specs.declared.traits.Shelf as shelves
 
 -- the first files are begun, and what is left to do does all
 pub record Opening {S : Type 0} (H : shelves.Ghosts S) (before now : S) (outputs : List OutputFile) (n : ℕ) : Type 0 where

@@ -1,42 +1,19 @@
 -- A phase whose lines are all the card's: the stage after it is one of a run, with all clients and readers as they were.
-use Rattle.std.specs.Prelude.{◌≡◌, ℕ, ◌+◌, ℤ, List, [], ◌∷◌, ◌++◌, length, Option, Some, cond, count_by}
-use Rattle.std.proofs.Common.{refl, sym, ap, subst, ◌∙◌, arith}
-use Rattle.std.proofs.lemmas.List.{append-nil}
+use Rattle.lab_phase.specs.Prelude.{ap, arith, refl, subst, sym, ◌+◌, ◌∙◌, ◌≡◌, append-nil, cond, count_by, length, List, Option, Some, ℕ, ℤ, [], ◌++◌, ◌∷◌}
+use Rattle.lab_phase.specs.Prelude.{player_key, player_ring, writer_geometry, writer_ring, Card, writer_of, Line, Op, Row, is_of_card, Client, Held, held_of}
+use Rattle.lab_phase.specs.Prelude.{phase_end, card_rows, is_reader, ops_by, Reader, AtPort, Stage, CardActor, IsSameCard-none, IsSameCard, frame_of_card}
+use Rattle.lab_phase.specs.Prelude.{seat_of_card, AreCounted, number_of, ops_of, has_lines, is_some_op, Lab, ops_by-alone_client, ops_by-alone_reader}
+use Rattle.lab_phase.specs.Prelude.{same_asks-reaped_clients, same_asks-reaped_readers, AreActorsOf, capture_of, IsAtStage, IsNextItem, IsSameScript, played_by}
+use Rattle.lab_phase.specs.Prelude.{played_of, session_of, IsCardIn, IsCardIn-after, IsCardIn-same, AreStopsOf, asks_of_lab, HasRunPhase, HaveSameAsks}
+use Rattle.lab_phase.specs.Prelude.{IsLonger, PlaysAlone, RunsPhase, Stops}
 use Rattle.std.proofs.lemmas.List.Sums.{sum_by-cons}
-use Rattle.sum_table.specs.Players.{player_key, player_ring}
-use Rattle.snoop_table.specs.Writers.{writer_geometry, writer_ring}
-use Rattle.card_sim.specs.declared.card.Card.{Card}
-use Rattle.card_sim.specs.Runs.{writer_of}
-use Rattle.lab_lines.specs.declared.line.Item.TheVariants as item
-use Rattle.lab_lines.specs.declared.line.Line.{Line}
-use Rattle.lab_lines.specs.declared.line.Op.{Op}
-use Rattle.lab_lines.specs.Script.{is_of_card}
-use Rattle.lab_lines.specs.declared.row.Row.{Row}
-use Rattle.lab_run.specs.Client.{Client}
-use Rattle.lab_run.specs.Items.{Held, held_of, phase_end}
-use Rattle.lab_run.specs.Phases.{card_rows, is_reader, ops_by}
-use Rattle.lab_run.specs.Reader.{Reader}
-use Rattle.lab_run.specs.Rules.{AtPort}
-use Rattle.lab_run.specs.Stage.{Stage}
-use Rattle.lab_actors.specs.Gates.{AreCounted}
-use Rattle.lab_card.specs.declared.card.CardActor.{CardActor}
-use Rattle.lab_card.specs.MeetLaws.{IsSameCard-none}
-use Rattle.lab_card.specs.Meets.{IsSameCard}
-use Rattle.lab_card.specs.Moves.{frame_of_card, seat_of_card}
-use Rattle.lab_clients.specs.AtStage as clients
 use Rattle.lab_clients.specs.Phase.{ClientsRest, clients-still}
 use Rattle.lab_readers.specs.declared.reader.LabReader.{LabReader}
-use Rattle.lab_readers.specs.OneReader.{number_of, ops_of}
-use Rattle.lab_readers.specs.AtStage as readers
 use Rattle.lab_readers.specs.Idle.{AreStill, readers-still}
-use Rattle.lab_readers.specs.Steps.{has_lines, is_some_op}
-use Rattle.lab_phase.specs.declared.lab.Lab.{Lab}
-use Rattle.lab_phase.specs.Alone.{ops_by-alone_client, ops_by-alone_reader}
-use Rattle.lab_phase.specs.AtStage.{AreActorsOf, IsAtStage, IsNextItem, IsSameScript, capture_of, played_by, played_of, session_of}
-use Rattle.lab_phase.specs.CardStage.{IsCardIn, IsCardIn-after, IsCardIn-same}
-use Rattle.lab_phase.specs.AskLaws.{same_asks-reaped_clients, same_asks-reaped_readers}
-use Rattle.lab_phase.specs.PhaseRuns.{AreStopsOf, HasRunPhase, HaveSameAsks, IsLonger, PlaysAlone, RunsPhase, Stops, asks_of_lab}
 use Rattle.lab_phase.proofs.PhaseStages.{phase-lines}
+use Rattle.lab_lines.specs.declared.line.Item.TheVariants as item
+use Rattle.lab_clients.specs.AtStage as clients
+use Rattle.lab_readers.specs.AtStage as readers
 
 -- one where there are lines, and none where there are not
 abbrev busy_ops : List Op → ℕ

@@ -1,31 +1,19 @@
 -- A lab at its beginning, over the seats of two new rings.
-use Rattle.std.specs.Prelude.{◌≡◌, [], Option, false}
-use Rattle.std.proofs.Common.{sym, ap, ◌∙◌}
-use Rattle.snd_base.specs.declared.geometry.Geometry.{Geometry}
+use Rattle.lab_phase.specs.Prelude.{ap, sym, ◌∙◌, ◌≡◌, false, Option, [], Geometry, MixSeat, PlayerSeat, player_key, track_of, ReaderSeat, writer_track}
+use Rattle.lab_phase.specs.Prelude.{period_of, records_of, writer_of, Sound, first_frame, first_stage, Session, CardActor, frame_of_card, geometry_of_card}
+use Rattle.lab_phase.specs.Prelude.{is_gone, seat_of_card, first_word, has_readers, IsCardIn, PlaysAll-new}
 use Rattle.snd_base.specs.declared.places.Cursor.{Cursor}
-use Rattle.snd_base.specs.Places as rings
-use Rattle.sum_table.specs.declared.seats.mix.MixSeat.{MixSeat}
-use Rattle.sum_table.specs.declared.seats.player.PlayerSeat.{PlayerSeat}
 use Rattle.sum_table.specs.declared.view.Key.{Key}
 use Rattle.sum_table.specs.declared.view.View.{View}
-use Rattle.sum_table.specs.Exact as sums
-use Rattle.sum_table.specs.Players.{player_key, track_of}
-use Rattle.sum_table.specs.Rings as sum
-use Rattle.snoop_table.specs.declared.seats.reader.ReaderSeat.{ReaderSeat}
 use Rattle.snoop_table.specs.declared.seats.writer.WriterSeat.{WriterSeat}
+use Rattle.lab_card.specs.Rests.{Rests-new}
+use Rattle.lab_readers.specs.RecordedLaws.{IsCapturedUpTo-new}
+use Rattle.snd_base.specs.Places as rings
+use Rattle.sum_table.specs.Exact as sums
+use Rattle.sum_table.specs.Rings as sum
 use Rattle.snoop_table.specs.declared.view.View as snoop_view
 use Rattle.snoop_table.specs.Captured as captured
 use Rattle.snoop_table.specs.Rings as snoop
-use Rattle.snoop_table.specs.Writers.{writer_track}
-use Rattle.wav_io.specs.Sound.{Sound}
-use Rattle.card_sim.specs.Runs.{period_of, records_of, writer_of}
-use Rattle.lab_lines.specs.Script.{first_frame}
-use Rattle.lab_run.specs.Stage.{Session, first_stage}
-use Rattle.lab_card.specs.declared.card.CardActor.{CardActor}
-use Rattle.lab_card.specs.Moves.{frame_of_card, geometry_of_card, is_gone, seat_of_card}
-use Rattle.lab_card.specs.Rests.{Rests-new}
-use Rattle.lab_readers.specs.RecordedLaws.{IsCapturedUpTo-new}
-use Rattle.lab_phase.specs.CardStage.{IsCardIn, PlaysAll-new, first_word, has_readers}
 
 -- a card over new rings, that did no line yet and stores where the session has a reader, is the card of the first stage
 pub IsCardIn-new : (session : Session) (capture : Option Sound) (a : CardActor) (key : Key) (player : PlayerSeat) (mix : MixSeat) (shape : Geometry) (writer : WriterSeat)

@@ -1,30 +1,15 @@
 -- What a lab leaves at the end of its script.
-use Rattle.std.specs.Prelude.{◌≡◌, ℕ, ◌-◌, ◌*◌, ℤ, List, [], ◌∷◌, ◌++◌, length, Option, Some, IsSomeAnd}
-use Rattle.std.proofs.Common.{sym, ap, subst, ◌∙◌, arith}
-use Rattle.std.proofs.lemmas.List.{append-nil, length-append}
-use Rattle.snd_base.specs.declared.geometry.Geometry.{Geometry}
-use Rattle.snd_base.specs.declared.places.Segment.{Segment}
-use Rattle.snd_base.specs.Places as rings
+use Rattle.lab_phase.specs.Prelude.{ap, arith, subst, sym, ◌∙◌, ◌≡◌, append-nil, length-append, IsSomeAnd, length, List, Option, Some, ℕ, ℤ, [], ◌*◌, ◌++◌, ◌-◌}
+use Rattle.lab_phase.specs.Prelude.{◌∷◌, Geometry, Segment, AreExact, AreInOrder, Sound, Item, Row, CardLine, first_frame, held_of, ItemsMay, all_runs}
+use Rattle.lab_phase.specs.Prelude.{all_segments, mix_of, outcome_of, recorded_from, first_stage, Session, Stage, CardActor, frames_since_first}
+use Rattle.lab_phase.specs.Prelude.{geometry_of_card, Lab, capture_of, IsAtStage, IsCardOf, played_by, session_of, first_word, HasPlayedMix, HaveAllPlaces}
+use Rattle.lab_phase.specs.Prelude.{IsAtEnd, IsMixBy, IsMixOf}
 use Rattle.mix_core.specs.declared.event.Taken.{Taken}
-use Rattle.mix_core.specs.History.{AreExact, AreInOrder}
-use Rattle.wav_io.specs.Sound.{Sound}
-use Rattle.lab_lines.specs.declared.line.Item.{Item}
-use Rattle.lab_lines.specs.declared.script.CardLine.{CardLine}
-use Rattle.lab_lines.specs.Script.{first_frame}
 use Rattle.lab_lines.specs.declared.report.Report.{Report}
-use Rattle.lab_lines.specs.declared.row.Row.{Row}
-use Rattle.lab_run.specs.Items.{ItemsMay, held_of}
-use Rattle.lab_run.specs.LabRun as runs
-use Rattle.lab_run.specs.LabRun.{all_runs, all_segments, mix_of, outcome_of, recorded_from}
-use Rattle.lab_run.specs.Stage.{Session, Stage, first_stage}
-use Rattle.lab_card.specs.declared.card.CardActor.{CardActor}
-use Rattle.lab_card.specs.Moves.{frames_since_first, geometry_of_card}
-use Rattle.lab_phase.specs.declared.lab.Lab.{Lab}
-use Rattle.lab_phase.specs.AtStage.{IsAtStage, IsCardOf, capture_of, played_by, session_of}
-use Rattle.lab_phase.specs.CardStage.{first_word}
-use Rattle.lab_phase.specs.Ended.{HasPlayedMix, HaveAllPlaces, IsAtEnd, IsMixBy, IsMixOf}
 use Rattle.lab_phase.specs.Places.{place_count-reached}
 use Rattle.lab_phase.specs.Played.{played-mix_of}
+use Rattle.snd_base.specs.Places as rings
+use Rattle.lab_run.specs.LabRun as runs
 
 abbrev outcome_with : Report → List ℤ → List (List ℤ) → runs.Outcome
 outcome_with report played recorded = record { report = report; played = played; recorded = recorded }

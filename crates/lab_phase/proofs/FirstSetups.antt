@@ -1,19 +1,8 @@
 -- With what the clients and readers of a session can be opened at its card.
-use Rattle.std.specs.Prelude.{◌≡◌, ℕ, zero, suc, ◌<◌, ◌*◌, List, [], ◌∷◌, length, Option, None, Some, IfSome, slice_index_or}
-use Rattle.std.proofs.Common.{sym, ap, subst, ◌∙◌, arith}
-use Rattle.std.proofs.lemmas.Option.{none-some, same_Some}
-use Rattle.snd_base.specs.declared.geometry.Geometry.{Geometry}
+use Rattle.lab_phase.specs.Prelude.{ap, arith, subst, sym, ◌<◌, ◌∙◌, ◌≡◌, none-some, same_Some, IfSome, length, List, None, Option, slice_index_or, Some, suc}
+use Rattle.lab_phase.specs.Prelude.{zero, ℕ, [], ◌*◌, ◌∷◌, Geometry, Sound, CardLine, ClientLine, first_frame, no_sound, AreClientOpenings, IsRingOf, Session}
+use Rattle.lab_phase.specs.Prelude.{Setup, AreUsable, IsUsable, AllFitCard}
 use Rattle.snd_base.specs.Places as rings
-use Rattle.wav_io.specs.Sound.{Sound}
-use Rattle.lab_lines.specs.declared.script.CardLine.{CardLine}
-use Rattle.lab_lines.specs.declared.script.ClientLine.{ClientLine}
-use Rattle.lab_lines.specs.Script.{first_frame}
-use Rattle.lab_run.specs.Items.{no_sound}
-use Rattle.lab_run.specs.Openings.{AreClientOpenings, IsRingOf}
-use Rattle.lab_run.specs.Stage.{Session, Setup}
-use Rattle.lab_actors.specs.Sessions.{AreUsable}
-use Rattle.lab_actors.specs.Usable.{IsUsable}
-use Rattle.lab_clients.specs.AtStage.{AllFitCard}
 
 -- a client that has an opening has as many bindings as its file has channels
 AreClientOpenings-at : (card : CardLine) (lines : List ClientLine) (wavs : List Sound) (setups : List (Option Setup)) → AreClientOpenings card lines wavs setups → (i : ℕ) (own : Setup)

@@ -1,42 +1,15 @@
 -- The meets and the lines of a phase, one after the other: what each of them asks follows from what a phase asks of its actors.
-use Rattle.std.specs.Prelude.{◌≡◌, ℕ, ◌+◌, ◌*◌, ◌≤◌, ◌++◌, ℤ, List, All, drop, length, slice_index_or, take, vec_capacity, vec_len}
-use Rattle.std.specs.Global.{Vec}
-use Rattle.std.proofs.Common.{ap, refl, sym, ◌∙◌, subst, arith}
-use Rattle.std.proofs.lemmas.List.{drop-append-le, drop_all, take-append-le, take_all}
-use Rattle.mix_core.specs.declared.gate.Gate as gate
-use Rattle.snd_base.specs.declared.geometry.Geometry.{Geometry}
-use Rattle.snd_base.specs.Places.{end_frame}
-use Rattle.sum_table.specs.Players.{player_key, player_ring}
-use Rattle.card_sim.specs.declared.card.Card.{Card}
-use Rattle.card_sim.specs.Runs.{period_of}
-use Rattle.lab_lines.specs.declared.line.Line.{Line}
-use Rattle.lab_lines.specs.declared.line.Op.{Op}
-use Rattle.lab_lines.specs.Script.{is_of_card}
-use Rattle.lab_lines.specs.declared.row.Row.{Row}
-use Rattle.lab_run.specs.Phases.{ops_by}
-use Rattle.lab_actors.specs.Walks.{AreEach, AreEach-length}
-use Rattle.lab_card.specs.declared.card.CardActor.{CardActor}
-use Rattle.lab_card.specs.CardLines.{frames_by}
-use Rattle.lab_card.specs.MeetLaws.{IsSameCard-joined, frame-same, geometry-same}
-use Rattle.lab_card.specs.Meets.{IsSameCard}
-use Rattle.lab_card.specs.Moves.{frame_of_card, geometry_of_card, seat_of_card}
-use Rattle.lab_card.specs.Room.{FitsRing, HasRoom}
+use Rattle.lab_phase.specs.Prelude.{ap, arith, refl, subst, sym, ◌+◌, ◌∙◌, ◌≡◌, drop-append-le, drop_all, take-append-le, take_all, Vec, All, drop, length}
+use Rattle.lab_phase.specs.Prelude.{List, slice_index_or, take, vec_capacity, vec_len, ℕ, ℤ, ◌*◌, ◌++◌, ◌≤◌, Geometry, end_frame, player_key, player_ring, Card}
+use Rattle.lab_phase.specs.Prelude.{period_of, Line, Op, Row, is_of_card, ops_by, CardActor, frames_by, frame-same, geometry-same, IsSameCard-joined}
+use Rattle.lab_phase.specs.Prelude.{IsSameCard, frame_of_card, geometry_of_card, seat_of_card, FitsRing, HasRoom, AreEach, AreEach-length, LabClients}
+use Rattle.lab_phase.specs.Prelude.{clients_of, places_of, AreOfCard-ring, AreOfRing, AreOfRing-informed, AreOfRing-run, AreOfCard, LabReaders, readers_of}
+use Rattle.lab_phase.specs.Prelude.{IsOfCard, IsOfCard-moved, AreOf-informed, AreOf-ran, AreOf-same, EachReader, PhaseInput, CanMeet, CardCanRun, ClientsCanRun}
+use Rattle.lab_phase.specs.Prelude.{ReadersCanRun, Asks, CardHasRun, ClientsHaveRun, HaveMet, HaveRun, IsSameButCard, ReadersHaveRun}
 use Rattle.lab_clients.specs.OneClientLaws.{IsOfRing-card}
-use Rattle.lab_clients.specs.declared.clients.LabClients.{LabClients}
-use Rattle.lab_clients.specs.AtStage.{clients_of, places_of}
-use Rattle.lab_clients.specs.StepLaws.{AreOfCard-ring, AreOfRing, AreOfRing-informed, AreOfRing-run}
+use Rattle.mix_core.specs.declared.gate.Gate as gate
 use Rattle.lab_clients.specs.Steps as clients
-use Rattle.lab_clients.specs.Steps.{AreOfCard}
-use Rattle.lab_readers.specs.OneReaderLaws.{IsOfCard-moved}
-use Rattle.lab_readers.specs.OneReader.{IsOfCard}
-use Rattle.lab_readers.specs.declared.readers.LabReaders.{LabReaders}
-use Rattle.lab_readers.specs.AtStage.{readers_of}
-use Rattle.lab_readers.specs.StepLaws.{AreOf-informed, AreOf-ran, AreOf-same}
 use Rattle.lab_readers.specs.Steps as readers
-use Rattle.lab_readers.specs.Steps.{EachReader}
-use Rattle.lab_phase.specs.declared.steps.PhaseInput.{PhaseInput}
-use Rattle.lab_phase.specs.PhaseInput.{CanMeet, CardCanRun, ClientsCanRun, ReadersCanRun}
-use Rattle.lab_phase.specs.PhaseSteps.{Asks, CardHasRun, ClientsHaveRun, HaveMet, HaveRun, IsSameButCard, ReadersHaveRun}
 
 -- ---- before the lines
 

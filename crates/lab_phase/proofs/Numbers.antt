@@ -1,24 +1,9 @@
 -- The numbers of clients and readers of a lab, and with what they can be opened.
-use Rattle.std.specs.Prelude.{◌≡◌, ℕ, zero, suc, ◌<◌, List, [], ◌∷◌, length, Option, None, IfSome, slice_index_or}
-use Rattle.std.proofs.Common.{refl, sym, ap, subst, ◌∙◌, arith}
-use Rattle.std.proofs.lemmas.Option.{get_or_from_slice_get}
-use Rattle.wav_io.specs.Sound.{Sound}
-use Rattle.lab_lines.specs.Limits.{IsItem, IsScript}
-use Rattle.lab_lines.specs.declared.line.Item.{Item}
-use Rattle.lab_lines.specs.declared.script.CardLine.{CardLine}
-use Rattle.lab_lines.specs.declared.script.ClientLine.{ClientLine}
-use Rattle.lab_lines.specs.declared.script.ReaderLine.{ReaderLine}
-use Rattle.lab_run.specs.Openings.{AreClientOpenings, AreReaderOpenings}
-use Rattle.lab_run.specs.Stage.{Setup, Stage}
-use Rattle.lab_actors.specs.Walks.{AreEach-length}
-use Rattle.lab_places.specs.Held.{key_of_places}
-use Rattle.lab_actors.specs.Usable.{IsUsable}
+use Rattle.lab_phase.specs.Prelude.{ap, arith, refl, subst, sym, ◌<◌, ◌∙◌, ◌≡◌, get_or_from_slice_get, IfSome, length, List, None, Option, slice_index_or, suc}
+use Rattle.lab_phase.specs.Prelude.{zero, ℕ, [], ◌∷◌, Sound, Item, CardLine, ClientLine, ReaderLine, IsItem, IsScript, AreClientOpenings, AreReaderOpenings}
+use Rattle.lab_phase.specs.Prelude.{Setup, Stage, key_of_places, IsUsable, AreEach-length, Lab, IsAtStage, IsNextItem, session_of, next-inside, AreAll-reached}
 use Rattle.lab_clients.specs.AtStage as clients
 use Rattle.lab_readers.specs.AtStage as readers
-use Rattle.lab_phase.specs.declared.lab.Lab.{Lab}
-use Rattle.lab_phase.specs.AtStage.{IsAtStage, IsNextItem, session_of}
-use Rattle.lab_phase.specs.BorderLaws.{next-inside}
-use Rattle.lab_phase.specs.Counts.{AreAll-reached}
 
 pub AreClientOpenings-length : (card : CardLine) (lines : List ClientLine) (wavs : List Sound) (setups : List (Option Setup)) → AreClientOpenings card lines wavs setups
     → length setups ≡ length lines

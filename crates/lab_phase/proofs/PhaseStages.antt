@@ -1,57 +1,24 @@
 -- A phase of a lab: what its script says of it, and that the stage after it is one of a run.
-use Rattle.std.specs.Prelude.{◌≡◌, ◌≢◌, ℕ, ◌+◌, ◌≤◌, ◌<◌, ℤ, List, [], ◌∷◌, ◌++◌, length, map, slice_get, Option, Some, take, drop, Bool, true, false}
-use Rattle.std.specs.Global.{Vec}
-use Rattle.std.specs.List.{flat_map}
-use Rattle.std.proofs.Common.{sym, ap, subst, ◌∙◌, arith, append_assoc}
-use Rattle.mix_core.specs.declared.gate.Gate as gate
-use Rattle.snd_base.specs.declared.geometry.Geometry.{Geometry}
+use Rattle.lab_phase.specs.Prelude.{ap, append_assoc, arith, subst, sym, ◌+◌, ◌<◌, ◌∙◌, ◌≡◌, Vec, flat_map, Bool, drop, false, length, List, map, Option}
+use Rattle.lab_phase.specs.Prelude.{slice_get, Some, take, true, ℕ, ℤ, [], ◌++◌, ◌∷◌, ◌≢◌, ◌≤◌, Geometry, player_key, player_ring, writer_geometry, writer_ring}
+use Rattle.lab_phase.specs.Prelude.{Card, writer_of, Sound, Item, Line, Row, IsPhase, is_of_card, phases_of, Client, held_of, is_reader_stopped, is_stopped}
+use Rattle.lab_phase.specs.Prelude.{phase_end, reaped_client, reaped_client_if, reaped_reader, reaped_reader_if, card_rows, ops_by, Reader, AtPort, IsReached}
+use Rattle.lab_phase.specs.Prelude.{PhasesAreOfScripts, StagesAreOfScripts, Session, Stage, key_of_places, ring_of_places, CardActor, seat_of_card, FitsRing}
+use Rattle.lab_phase.specs.Prelude.{AreCounted, HaveAskedMore, LabClients, LabReaders, Lab, ReportRoom, PhaseInput, unplugs_by-others, HaveAskedMore-then}
+use Rattle.lab_phase.specs.Prelude.{same_asks-reaped_clients, same_asks-reaped_readers, AreActorsOf, AreOfRings, capture_of, HasEndRoom, IsAtStage, IsNextItem}
+use Rattle.lab_phase.specs.Prelude.{played_by, played_of, session_of, AreSetUp-same, HasDone-next, HasEndRoom-next, session_of-same, AreAll-reached, CanMeet}
+use Rattle.lab_phase.specs.Prelude.{ActorLaws, asks_at, few-rows, have-done, HaveDone, AreStopsOf, asks_of_lab, CountsPhase, DoesPhase, HasRunLines}
+use Rattle.lab_phase.specs.Prelude.{HasRunPhase, HaveAsked, IsLonger, Reaps, RunsPhase, Stops, stops_by, GiveFewRows, HaveMet, HaveRoom, KeepsRoom}
+use Rattle.lab_phase.specs.Prelude.{IsAtStage-room, IsPhase-next}
 use Rattle.sum_table.specs.declared.view.Key.{Key}
-use Rattle.sum_table.specs.Players.{player_key, player_ring}
-use Rattle.snoop_table.specs.Writers.{writer_geometry, writer_ring}
-use Rattle.wav_io.specs.Sound.{Sound}
-use Rattle.card_sim.specs.declared.card.Card.{Card}
-use Rattle.card_sim.specs.Runs.{writer_of}
-use Rattle.lab_lines.specs.declared.line.Item.{Item}
+use Rattle.lab_phase.specs.Reached.{IsFirstOf, IsFirstOf-next}
+use Rattle.lab_phase.proofs.StageLaws.{CanMeet-at, FitsRing-reached, IsAskedAt-reached, files-reached}
+use Rattle.mix_core.specs.declared.gate.Gate as gate
 use Rattle.lab_lines.specs.declared.line.Item.TheVariants as item
-use Rattle.lab_lines.specs.declared.line.Line.{Line}
-use Rattle.lab_lines.specs.Limits.{IsPhase}
-use Rattle.lab_lines.specs.Script.{is_of_card, phases_of}
-use Rattle.lab_lines.specs.declared.row.Row.{Row}
-use Rattle.lab_run.specs.Client.{Client}
-use Rattle.lab_run.specs.Items.{held_of, is_reader_stopped, is_stopped, phase_end, reaped_client, reaped_client_if, reaped_reader, reaped_reader_if}
-use Rattle.lab_run.specs.Phases.{card_rows, ops_by}
-use Rattle.lab_run.specs.Reader.{Reader}
-use Rattle.lab_run.specs.Rules.{AtPort}
-use Rattle.lab_run.specs.ScriptWords.{IsReached, PhasesAreOfScripts, StagesAreOfScripts}
-use Rattle.lab_run.specs.Stage.{Session, Stage}
-use Rattle.lab_actors.specs.Gates.{AreCounted, HaveAskedMore}
-use Rattle.lab_card.specs.declared.card.CardActor.{CardActor}
-use Rattle.lab_card.specs.Moves.{seat_of_card}
-use Rattle.lab_card.specs.Room.{FitsRing}
-use Rattle.lab_places.specs.Held.{key_of_places, ring_of_places}
 use Rattle.lab_clients.specs.OneClient as client
 use Rattle.lab_clients.specs.AtStage as clients
-use Rattle.lab_clients.specs.declared.clients.LabClients.{LabClients}
 use Rattle.lab_readers.specs.OneReader as reader
 use Rattle.lab_readers.specs.AtStage as readers
-use Rattle.lab_readers.specs.declared.readers.LabReaders.{LabReaders}
-use Rattle.lab_phase.specs.declared.lab.Lab.{Lab}
-use Rattle.lab_phase.specs.declared.report_room.ReportRoom.{ReportRoom}
-use Rattle.lab_phase.specs.declared.steps.PhaseInput.{PhaseInput}
-use Rattle.lab_phase.specs.Alone.{unplugs_by-others}
-use Rattle.lab_phase.specs.PhaseInput.{CanMeet}
-use Rattle.lab_phase.specs.AtStage.{AreActorsOf, AreOfRings, HasEndRoom, IsAtStage, IsNextItem, capture_of, played_by, played_of, session_of}
-use Rattle.lab_phase.specs.BorderLaws.{HasDone-next, HasEndRoom-next, AreSetUp-same, session_of-same}
-use Rattle.lab_phase.specs.Counts.{AreAll-reached}
-use Rattle.lab_phase.specs.PhaseLaws.{ActorLaws, HaveDone, asks_at, few-rows, have-done}
-use Rattle.lab_phase.specs.AskLaws.{HaveAskedMore-then, same_asks-reaped_clients, same_asks-reaped_readers}
-use Rattle.lab_phase.specs.PhaseRuns.{AreStopsOf, CountsPhase, DoesPhase, HasRunLines, HasRunPhase, HaveAsked, IsLonger, Reaps, RunsPhase, Stops, asks_of_lab, stops_by}
-use Rattle.lab_phase.specs.PhaseSteps.{GiveFewRows, HaveMet, HaveRoom}
-use Rattle.lab_phase.specs.Reached.{IsFirstOf, IsFirstOf-next}
-use Rattle.lab_phase.specs.ReportRoom.{KeepsRoom}
-use Rattle.lab_phase.specs.Same.{IsAtStage-room}
-use Rattle.lab_phase.specs.Scripts.{IsPhase-next}
-use Rattle.lab_phase.proofs.StageLaws.{CanMeet-at, FitsRing-reached, IsAskedAt-reached, files-reached}
 
 -- ---- the next phase of a script
 

@@ -1,9 +1,6 @@
 -- A card has one ring: its shape is settled by three numbers.
-use Rattle.std.proofs.Common.{◌≡◌, ◌≤◌, ℕ, sym, ap, ◌∙◌, subst}
+use Rattle.lab_phase.specs.Prelude.{ap, subst, sym, ◌∙◌, ◌≡◌, ℕ, ◌≤◌, Geometry, CardLine, IsRingOf}
 use Rattle.std.proofs.Props.{props}
-use Rattle.snd_base.specs.declared.geometry.Geometry.{Geometry}
-use Rattle.lab_lines.specs.declared.script.CardLine.{CardLine}
-use Rattle.lab_run.specs.Openings.{IsRingOf}
 
 -- the numbers of a ring, and that they are in their ranges
 abbrev InRange : ℕ × ℕ × ℕ → Type 0

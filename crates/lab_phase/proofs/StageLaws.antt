@@ -1,52 +1,17 @@
 -- The actors of a stage can meet the card and do the lines of the next phase, once they took the room of the lines.
-use Rattle.std.specs.Prelude.{◌≡◌, ℕ, suc, ◌+◌, ◌*◌, ◌≤◌, List, [], ◌∷◌, All, Some, Option, length}
-use Rattle.std.proofs.Common.{ap, refl, sym, subst, ◌∙◌, arith}
-use Rattle.snd_base.specs.declared.geometry.Geometry.{Geometry}
-use Rattle.snd_base.specs.Places.{end_frame}
-use Rattle.wav_io.specs.Sound.{Sound}
-use Rattle.sum_table.specs.Players.{player_key, player_ring}
-use Rattle.snoop_table.specs.Writers.{writer_geometry, writer_ring}
-use Rattle.card_sim.specs.declared.card.Card.{Card}
-use Rattle.card_sim.specs.Runs.{writer_of}
-use Rattle.lab_lines.specs.declared.line.Item.{Item}
-use Rattle.lab_lines.specs.declared.line.Item.TheVariants as item
-use Rattle.lab_lines.specs.declared.line.Line.{Line}
-use Rattle.lab_lines.specs.declared.script.CardLine.{CardLine}
-use Rattle.lab_lines.specs.declared.script.ClientLine.{ClientLine}
-use Rattle.lab_lines.specs.declared.script.ReaderLine.{ReaderLine}
-use Rattle.lab_lines.specs.declared.script.Script.{Script}
-use Rattle.lab_lines.specs.Limits.{IsPhase}
-use Rattle.lab_lines.specs.Script.{is_of_card}
-use Rattle.lab_run.specs.Items.{held_of}
-use Rattle.lab_run.specs.Openings.{AreClientOpenings, AreReaderOpenings}
-use Rattle.lab_run.specs.Phases.{ops_by}
-use Rattle.lab_run.specs.ScriptWords.{IsReached, PhasesAreOfScripts}
-use Rattle.lab_run.specs.Stage.{Session, Setup, Stage}
-use Rattle.lab_actors.specs.Walks.{AreEach-length}
-use Rattle.lab_card.specs.declared.card.CardActor.{CardActor}
-use Rattle.lab_card.specs.CardLines.{frames_by}
-use Rattle.lab_card.specs.Moves.{frame_of_card, geometry_of_card, seat_of_card}
+use Rattle.lab_phase.specs.Prelude.{ap, arith, refl, subst, sym, ◌+◌, ◌∙◌, ◌≡◌, All, length, List, Option, Some, suc, ℕ, [], ◌*◌, ◌∷◌, ◌≤◌, Geometry, end_frame}
+use Rattle.lab_phase.specs.Prelude.{player_key, player_ring, writer_geometry, writer_ring, Card, writer_of, Sound, Item, Line, CardLine, ClientLine, ReaderLine}
+use Rattle.lab_phase.specs.Prelude.{Script, IsPhase, is_of_card, held_of, AreClientOpenings, AreReaderOpenings, ops_by, IsReached, PhasesAreOfScripts, Session}
+use Rattle.lab_phase.specs.Prelude.{Setup, Stage, key_of_places, ring_of_places, CardActor, frames_by, frame_of_card, geometry_of_card, seat_of_card, FitsRing}
+use Rattle.lab_phase.specs.Prelude.{AreEach-length, LabClients, clients_of, IsClientAt, places_of, AreOfCard-ring, AreOfRing-at, AreOfRing-room, AreReady-at}
+use Rattle.lab_phase.specs.Prelude.{AreOfCard, AreReady, LabReaders, IsReaderAt, readers_of, ring_of, spare_of, IsOfCard, IsOver, AreOf-at, AreOf-room}
+use Rattle.lab_phase.specs.Prelude.{AreReady-informed, PhaseInput, AreActorsOf, AreAll-reached, CanMeet, HaveRoom, FitsRing-next, IsFew-lines, IsFewRead-lines}
+use Rattle.lab_phase.specs.Prelude.{IsPhase-next}
 use Rattle.lab_card.specs.PositionLaws.{frames_by-ops_by}
-use Rattle.lab_card.specs.Room.{FitsRing}
 use Rattle.lab_card.specs.Stages.{IsCardAt}
-use Rattle.lab_places.specs.Held.{key_of_places, ring_of_places}
-use Rattle.lab_clients.specs.declared.clients.LabClients.{LabClients}
-use Rattle.lab_clients.specs.AtStage.{IsClientAt, clients_of, places_of}
-use Rattle.lab_clients.specs.StepLaws.{AreOfCard-ring, AreOfRing-at, AreOfRing-room, AreReady-at}
+use Rattle.lab_lines.specs.declared.line.Item.TheVariants as item
 use Rattle.lab_clients.specs.Steps as clients
-use Rattle.lab_clients.specs.Steps.{AreOfCard, AreReady}
-use Rattle.lab_readers.specs.OneReaderLaws.{IsOver}
-use Rattle.lab_readers.specs.OneReader.{IsOfCard}
-use Rattle.lab_readers.specs.declared.readers.LabReaders.{LabReaders}
-use Rattle.lab_readers.specs.AtStage.{IsReaderAt, readers_of, ring_of, spare_of}
-use Rattle.lab_readers.specs.StepLaws.{AreOf-at, AreOf-room, AreReady-informed}
 use Rattle.lab_readers.specs.Steps as readers
-use Rattle.lab_phase.specs.declared.steps.PhaseInput.{PhaseInput}
-use Rattle.lab_phase.specs.PhaseInput.{CanMeet}
-use Rattle.lab_phase.specs.AtStage.{AreActorsOf}
-use Rattle.lab_phase.specs.Counts.{AreAll-reached}
-use Rattle.lab_phase.specs.PhaseSteps.{HaveRoom}
-use Rattle.lab_phase.specs.Scripts.{FitsRing-next, IsFew-lines, IsFewRead-lines, IsPhase-next}
 
 -- a phase of a script asks this of the actors of a stage: there is a file for each client, and a gate for each actor
 pub record IsAskedAt (session : Session) (stage : Stage) (gates client_count reader_count : ℕ) (asked : PhaseInput) : Type 0 where

@@ -12,6 +12,7 @@ pub mod PhaseRuns
 pub mod PhaseSteps
 pub mod Places
 pub mod Played
+pub mod Prelude
 pub mod Reached
 pub mod ReportRoom
 pub mod Same

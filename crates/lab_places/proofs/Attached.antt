@@ -1,22 +1,10 @@
 -- A client that attached beside the player, and whose seat met the player then.
-use Rattle.std.proofs.Common.{◌≡◌, ℕ, ◌<◌, ◌≤◌, Option, None, Some, Result, Ok, Err, IfSome, IsSome, refl, sym, ap, subst, ◌∙◌}
-use Rattle.snd_base.specs.declared.errors.PcmError.{PcmError}
-use Rattle.snd_base.specs.declared.errors.PcmError.TheVariants.{Busy}
-use Rattle.mix_core.specs.Marks.{start_marks}
-use Rattle.mix_core.specs.declared.port.Position.{Position}
-use Rattle.sum_table.specs.declared.seats.mix.MixSeat.{MixSeat}
-use Rattle.sum_table.specs.declared.seats.player.PlayerSeat.{PlayerSeat}
+use Rattle.lab_places.specs.Prelude.{ap, Err, IfSome, IsSome, None, Ok, Option, refl, Result, Some, subst, sym, ℕ, ◌<◌, ◌∙◌, ◌≡◌, ◌≤◌, PcmError, Busy, Position}
+use Rattle.lab_places.specs.Prelude.{start_marks, MixSeat, PlayerSeat, last_frame, position_of_player, key_of, marks_of_seat, member_of, Lobby as Free}
+use Rattle.lab_places.specs.Prelude.{Attaches, free_seats, IsSilentSeat, key_of_lobby, ring_of_lobby, seen_of_lobby, IsPlace, last_of, lowest_free}
+use Rattle.lab_places.specs.Prelude.{lowest_silent, after_attach, MarksAlike, Places, AttachesAt, HasMetPlayer, HoldsPlace, IsGiven}
 use Rattle.sum_table.specs.declared.view.Key.{Key}
-use Rattle.sum_table.specs.Known.{last_frame}
-use Rattle.sum_table.specs.Players.{position_of_player}
-use Rattle.sum_table.specs.Seats.{key_of, marks_of_seat, member_of}
-use Rattle.lobby.specs.declared.lobby.Lobby.{Lobby as Free}
-use Rattle.lobby.specs.Lobbies.{Attaches, IsSilentSeat, free_seats, key_of_lobby, ring_of_lobby, seen_of_lobby}
-use Rattle.lobby.specs.Seats.{IsPlace, last_of, lowest_free, lowest_silent}
-use Rattle.lab_run.specs.Places.{Lobby, after_attach}
-use Rattle.lab_run.specs.PortSteps.{MarksAlike}
-use Rattle.lab_places.specs.declared.places.Places.{Places}
-use Rattle.lab_places.specs.Held.{AttachesAt, HasMetPlayer, HoldsPlace, IsGiven}
+use Rattle.lab_run.specs.Places.{Lobby}
 use Rattle.lab_places.proofs.Attaching.{LobbyAttaches}
 use Rattle.lab_places.proofs.Fresh.{given-alike}
 

@@ -1,25 +1,15 @@
 -- An attach at a lobby is that of a run.
-use Rattle.std.proofs.Common.{◌≡◌, ℕ, zero, suc, ◌+◌, ◌≤◌, ◌&&◌, Bool, true, false, not, List, [], ◌∷◌, Option, None, Some, Result, Ok, Err, IfOk, IsSome, cond, length, nat_lt, set, if◌then◌else◌, arith, refl, sym, ap, subst, ◌∙◌}
-use Rattle.std.specs.List.{list_any, position, position_or_len}
-use Rattle.std.specs.Option.{is_some}
-use Rattle.std.proofs.lemmas.Option.{none-some}
+use Rattle.lab_places.specs.Prelude.{ap, arith, Bool, cond, Err, false, IfOk, if◌then◌else◌, IsSome, length, List, nat_lt, None, not, Ok, Option, refl, Result}
+use Rattle.lab_places.specs.Prelude.{set, Some, subst, suc, sym, true, zero, ℕ, [], ◌&&◌, ◌+◌, ◌∙◌, ◌∷◌, ◌≡◌, ◌≤◌, nat_tests, none-some, list_any, position}
+use Rattle.lab_places.specs.Prelude.{position_or_len, is_some, PcmError, Busy, Position, MixSeat, last_frame, member_of, Lobby as Free, Attaches, free_seats}
+use Rattle.lab_places.specs.Prelude.{LoadsAt, Outcome, seen_of_lobby, IsBusy, last_of, lowest_free, lowest_silent, seat_at, after_attach, attached_by, held_by}
+use Rattle.lab_places.specs.Prelude.{is_below, is_free, is_silent, Place, place_after, AreAtPlaces, HoldsGiven, HoldsNone, HoldsPlace, IsAnswerOfRun, IsAtPlace}
 use Rattle.std.proofs.lemmas.List.Folds.{list_any_at, list_any_none}
 use Rattle.std.proofs.lemmas.List.Quantifiers.{position-Some}
 use Rattle.std.proofs.lemmas.List.Sums.{fails_before_first}
-use Rattle.std.proofs.lemmas.Bool.Decides.{nat_tests}
-use Rattle.snd_base.specs.declared.errors.PcmError.{PcmError}
-use Rattle.snd_base.specs.declared.errors.PcmError.TheVariants.{Busy}
-use Rattle.sum_table.specs.declared.seats.mix.MixSeat.{MixSeat}
-use Rattle.sum_table.specs.Known.{last_frame}
-use Rattle.sum_table.specs.Seats.{member_of}
-use Rattle.mix_core.specs.declared.port.Position.{Position}
-use Rattle.lobby.specs.declared.lobby.Lobby.{Lobby as Free}
-use Rattle.lobby.specs.Lobbies.{Attaches, LoadsAt, Outcome, free_seats, seen_of_lobby}
-use Rattle.lobby.specs.Seats.{IsBusy, last_of, lowest_free, lowest_silent, seat_at}
-use Rattle.lobby.specs.Seats as seats
-use Rattle.lab_run.specs.Places.{Lobby, Place, after_attach, attached_by, held_by, is_below, is_free, is_silent, place_after}
-use Rattle.lab_places.specs.Held.{AreAtPlaces, HoldsGiven, HoldsNone, HoldsPlace, IsAnswerOfRun, IsAtPlace}
+use Rattle.lab_run.specs.Places.{Lobby}
 use Rattle.lab_places.proofs.Least.{least_last-is}
+use Rattle.lobby.specs.Seats as seats
 
 -- ---- the first place that passes a test
 

@@ -1,11 +1,8 @@
 -- A claim of a card's channels, and their release, are those of a run.
-use Rattle.std.proofs.Common.{◌≡◌, ℕ, List, ◌∷◌, Option, None, Some, Result, Ok, Err, IfErr, OnErr, OnOk, refl, sym, ap, ◌∙◌}
-use Rattle.snd_base.specs.declared.errors.PcmError.{PcmError}
+use Rattle.lab_places.specs.Prelude.{ap, Err, IfErr, List, None, Ok, OnErr, OnOk, Option, refl, Result, Some, sym, ℕ, ◌∙◌, ◌∷◌, ◌≡◌, PcmError, Ownership}
+use Rattle.lab_places.specs.Prelude.{StandsFor, claim_refusal, ClaimIsOwners, IsClaimed}
 use Rattle.dshare.specs.Owners.{AreFree, ClaimRow, busy, claimed}
-use Rattle.dshare.specs.Shared.{Ownership, StandsFor}
 use Rattle.lab_lines.specs.declared.script.Share.TheVariants.{Dshare}
-use Rattle.lab_run.specs.Claims.{ClaimIsOwners, claim_refusal}
-use Rattle.lab_places.specs.Held.{IsClaimed}
 
 -- a claim of channels that aren't free is refused as its owners' list says
 pub claim_refusal-busy : (claims : List ClaimRow) (channels : List ℕ) (position : ℕ) (e : PcmError) → ClaimIsOwners claims channels position

@@ -1,18 +1,10 @@
 -- A place that is given back is that of a run.
-use Rattle.std.proofs.Common.{◌≡◌, ℕ, zero, suc, Bool, true, List, [], ◌∷◌, Option, None, Some, map, set, if◌then◌else◌, arith, refl, sym, ap, subst, ◌∙◌}
-use Rattle.std.proofs.lemmas.Bool.Decides.{nat_tests}
-use Rattle.sum_table.specs.declared.seats.mix.MixSeat.{MixSeat}
-use Rattle.sum_table.specs.Seats.{member_of}
-use Rattle.lobby.specs.declared.lobby.Lobby.{Lobby as Free}
-use Rattle.lobby.specs.Lobbies.{TakesBack, free_seats, seen_of_lobby}
+use Rattle.lab_places.specs.Prelude.{ap, arith, Bool, if◌then◌else◌, List, map, None, Option, refl, set, Some, subst, suc, sym, true, zero, ℕ, [], ◌∙◌, ◌∷◌}
+use Rattle.lab_places.specs.Prelude.{◌≡◌, nat_tests, MixSeat, member_of, Lobby as Free, free_seats, seen_of_lobby, TakesBack, Share, with_release, Held}
+use Rattle.lab_places.specs.Prelude.{is_held_by, left_place, Place, last_from, AreAtPlaces, closed_held, HoldsNone, HoldsPlace, IsAtPlace, IsOwnLast}
+use Rattle.lab_run.specs.Places.{last_of}
 use Rattle.lobby.specs.Seats as seats
 use Rattle.dshare.specs.Shared as shared
-use Rattle.lab_lines.specs.declared.script.Share.{Share}
-use Rattle.lab_run.specs.Claims.{with_release}
-use Rattle.lab_run.specs.Items.{Held}
-use Rattle.lab_run.specs.PortSteps.{last_from}
-use Rattle.lab_run.specs.Places.{Place, is_held_by, last_of, left_place}
-use Rattle.lab_places.specs.Held.{AreAtPlaces, HoldsNone, HoldsPlace, IsAtPlace, IsOwnLast, closed_held}
 
 abbrev left_if : Bool → Option ℕ → Place → Place
 left_if held last place = if held then record { holder = None; last = last_of last place.last } else place

@@ -1,13 +1,10 @@
 -- The marks of a seat that is given out at a position past its last frame.
-use Rattle.std.proofs.Common.{◌≡◌, ℕ, ◌<◌, ◌≤◌, Bool, true, false, Option, None, Some, IfSome, if◌then◌else◌, arith, refl, subst}
-use Rattle.std.proofs.lemmas.Bool.Decides.{nat_tests}
+use Rattle.lab_places.specs.Prelude.{arith, Bool, false, IfSome, if◌then◌else◌, None, Option, refl, Some, subst, true, ℕ, ◌<◌, ◌≡◌, ◌≤◌, nat_tests, high_frame}
+use Rattle.lab_places.specs.Prelude.{is_before, last_before, start_marks, start_of, free_from, IsLow, MarksAlike, untouched}
 use Rattle.snd_base.specs.declared.geometry.Geometry.{Geometry}
 use Rattle.snd_base.specs.declared.places.Cursor.{Cursor}
 use Rattle.snd_base.specs.Places.{IsFrom, first_frame}
 use Rattle.mix_core.specs.declared.marks.Marks.{Marks}
-use Rattle.mix_core.specs.Marks.{high_frame, is_before, last_before, start_marks, start_of}
-use Rattle.sum_table.specs.Known.{free_from}
-use Rattle.lab_run.specs.PortSteps.{IsLow, MarksAlike, untouched}
 
 free-low : (g : Geometry) (position : ℕ) (last : Option ℕ) → IfSome last (λ frame. frame < position) → first_frame g ≤ position → free_from g last ≤ position
 free-low g position None below first = first

@@ -1,20 +1,10 @@
 -- A seat that is handed out, or comes back, takes with it what was placed by it, and nothing else is placed.
-use Rattle.std.proofs.Common.{◌≡◌, ℕ, zero, suc, ◌<◌, List, [], ◌∷◌, Option, None, Some, Result, Ok, Err, length, set, arith, refl, sym, ap, subst, ◌∙◌}
-use Rattle.std.specs.Prelude.{option_map, slice_index_or}
+use Rattle.lab_places.specs.Prelude.{ap, arith, Err, length, List, None, Ok, Option, refl, Result, set, Some, subst, suc, sym, zero, ℕ, [], ◌<◌, ◌∙◌, ◌∷◌, ◌≡◌}
+use Rattle.lab_places.specs.Prelude.{none-some, PcmError, Busy, Position, MixSeat, PlayerSeat, View, member_of, view_of, Lobby as Free, Attaches, CanTakeBack}
+use Rattle.lab_places.specs.Prelude.{free_seats, HandsOut, IsNewLobby, LoadsAt, Outcome, seen_of_lobby, TakesBack, lowest_free, seat_at, HasMetPlayer}
 use Rattle.std.proofs.lemmas.List.{get_or-set_same, length-map, length-set, map-set, set-get_or, set-set}
-use Rattle.std.proofs.lemmas.Option.{none-some}
-use Rattle.snd_base.specs.declared.errors.PcmError.{PcmError}
-use Rattle.snd_base.specs.declared.errors.PcmError.TheVariants.{Busy}
+use Rattle.std.specs.Prelude.{option_map, slice_index_or}
 use Rattle.mix_core.specs.declared.port.Entry.{Entry}
-use Rattle.mix_core.specs.declared.port.Position.{Position}
-use Rattle.sum_table.specs.declared.seats.mix.MixSeat.{MixSeat}
-use Rattle.sum_table.specs.declared.seats.player.PlayerSeat.{PlayerSeat}
-use Rattle.sum_table.specs.declared.view.View.{View}
-use Rattle.sum_table.specs.Seats.{member_of, view_of}
-use Rattle.lobby.specs.declared.lobby.Lobby.{Lobby as Free}
-use Rattle.lobby.specs.Lobbies.{Attaches, CanTakeBack, HandsOut, IsNewLobby, LoadsAt, Outcome, TakesBack, free_seats, seen_of_lobby}
-use Rattle.lobby.specs.Seats.{lowest_free, seat_at}
-use Rattle.lab_places.specs.Held.{HasMetPlayer}
 use Rattle.lab_places.specs.Laid.{IsLaidAlike, IsLaidWith, IsUnlaid, KeepsLaid, laid_list, laid_lists}
 
 found-within : (seats : List (Option MixSeat)) (place : ℕ) (s : MixSeat) → seat_at seats place ≡ Some s → place < length seats

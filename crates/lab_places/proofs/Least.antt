@@ -1,13 +1,8 @@
 -- The least last frame of the free places is that of the free seats.
-use Rattle.std.proofs.Common.{◌≡◌, ℕ, zero, suc, ◌<◌, ◌≤◌, List, [], ◌∷◌, All, Option, None, Some, get_or, length, if◌then◌else◌, min, arith, refl, sym, ap, ◌∙◌}
-use Rattle.std.specs.List.{cons_option}
-use Rattle.std.specs.Option.{option_and_then}
-use Rattle.std.proofs.lemmas.Option.{same_Some}
+use Rattle.lab_places.specs.Prelude.{All, ap, arith, get_or, if◌then◌else◌, length, List, min, None, Option, refl, Some, suc, sym, zero, ℕ, [], ◌<◌, ◌∙◌, ◌∷◌}
+use Rattle.lab_places.specs.Prelude.{◌≡◌, ◌≤◌, same_Some, cons_option, option_and_then, MixSeat, IsLeast, last_frames, last_of, last_if_free, least, least_last}
+use Rattle.lab_places.specs.Prelude.{Place, AreAtPlaces, IsAtPlace}
 use Rattle.std.proofs.lemmas.List.Elements.{All-head, All-tail}
-use Rattle.sum_table.specs.declared.seats.mix.MixSeat.{MixSeat}
-use Rattle.lobby.specs.Seats.{IsLeast, last_frames, last_of}
-use Rattle.lab_run.specs.Places.{Place, last_if_free, least, least_last}
-use Rattle.lab_places.specs.Held.{AreAtPlaces, IsAtPlace}
 
 -- the least of some frames, where there is one
 abbrev earliest : List ℕ → Option ℕ

@@ -1,17 +1,10 @@
 -- An opening is a claim and then an attach.
-use Rattle.std.proofs.Common.{◌≡◌, ℕ, List, None, Some, Result, Ok, Err, true, false, true≢false, refl, sym, ap, subst, ◌∙◌}
+use Rattle.lab_places.specs.Prelude.{ap, Err, false, List, None, Ok, refl, Result, Some, subst, sym, true, true≢false, ℕ, ◌∙◌, ◌≡◌, PcmError, StandsFor}
+use Rattle.lab_places.specs.Prelude.{MixSeat, Lobby as Free, free_seats, seen_of_lobby, Share, claim_refusal, with_claim, Held, after_attach, Places}
+use Rattle.lab_places.specs.Prelude.{AreAtPlaces, attached_held, AttachesAt, HoldsGiven, IsAnswerOfRun, IsHeldBy, IsLobby, IsSameLobby, lobby_of, opened_held}
+use Rattle.lab_places.specs.Prelude.{opened_if, Opens}
 use Rattle.std.specs.Result.{IsErrAnd, is_err}
-use Rattle.snd_base.specs.declared.errors.PcmError.{PcmError}
-use Rattle.sum_table.specs.declared.seats.mix.MixSeat.{MixSeat}
-use Rattle.dshare.specs.Shared.{StandsFor}
-use Rattle.lab_lines.specs.declared.script.Share.{Share}
-use Rattle.lab_run.specs.Claims.{claim_refusal, with_claim}
-use Rattle.lab_run.specs.Items.{Held}
-use Rattle.lobby.specs.declared.lobby.Lobby.{Lobby as Free}
-use Rattle.lobby.specs.Lobbies.{free_seats, seen_of_lobby}
-use Rattle.lab_run.specs.Places.{Lobby, after_attach}
-use Rattle.lab_places.specs.declared.places.Places.{Places}
-use Rattle.lab_places.specs.Held.{AreAtPlaces, AttachesAt, HoldsGiven, IsAnswerOfRun, IsHeldBy, IsLobby, IsSameLobby, Opens, attached_held, lobby_of, opened_held, opened_if}
+use Rattle.lab_run.specs.Places.{Lobby}
 
 -- what comes of an opening
 abbrev Came : Type 0

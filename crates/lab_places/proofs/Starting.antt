@@ -1,14 +1,6 @@
 -- A new lobby has the places of a new run.
-use Rattle.std.proofs.Common.{◌≡◌, ℕ, suc, ◌<◌, List, [], ◌∷◌, Option, None, Some, length, replicate, arith, refl, sym, ap, subst}
-use Rattle.sum_table.specs.declared.seats.mix.MixSeat.{MixSeat}
-use Rattle.sum_table.specs.declared.view.View.{View}
-use Rattle.sum_table.specs.Known.{last_frame}
-use Rattle.sum_table.specs.Seats.{places_of_seat, view_of}
-use Rattle.lobby.specs.declared.lobby.Lobby.{Lobby as Free}
-use Rattle.lobby.specs.Lobbies.{IsNewLobby, free_seats}
-use Rattle.lobby.specs.Seats.{seat_at}
-use Rattle.lab_run.specs.Places.{Place}
-use Rattle.lab_places.specs.Held.{AreAtPlaces, IsAtPlace}
+use Rattle.lab_places.specs.Prelude.{ap, arith, length, List, None, Option, refl, replicate, Some, subst, suc, sym, ℕ, [], ◌<◌, ◌∷◌, ◌≡◌, MixSeat, View}
+use Rattle.lab_places.specs.Prelude.{last_frame, places_of_seat, view_of, Lobby as Free, free_seats, IsNewLobby, seat_at, Place, AreAtPlaces, IsAtPlace}
 
 abbrev free_place : Place
 free_place = record { holder = None; last = None }

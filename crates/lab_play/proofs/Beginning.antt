@@ -1,29 +1,10 @@
 -- The beginning of a run: nothing is played, recorded or answered, and so much is written.
-use Rattle.std.specs.Prelude.{◌≡◌, ℕ, suc, ◌+◌, ℤ, List, [], ◌∷◌, ◌++◌, length, map, take, Option}
-use Rattle.std.specs.Option.{option_map}
-use Rattle.std.proofs.Common.{refl, inl, sym, ap, subst, ◌∙◌, arith}
-use Rattle.std.proofs.lemmas.List.{append-nil, length-map}
-use Rattle.wav_io.specs.Sound.{Sound}
-use Rattle.lab_input.specs.Input.{RunInput}
-use Rattle.lab_output.specs.declared.file.OutputFile.{OutputFile}
-use Rattle.lab_output.specs.declared.outputs.Outputs.{Outputs}
-use Rattle.lab_output.specs.Files.{MayHold, nothing, recorded_file}
-use Rattle.lab_output.specs.Going.{IsGoingOn}
-use Rattle.lab_output.specs.Text.{head_text, text_so_far}
-use Rattle.lab_phase.specs.declared.lab.Lab.{Lab}
-use Rattle.lab_phase.specs.AtStage.{capture_of, session_of}
-use Rattle.lab_phase.specs.PhaseRuns.{Stops}
-use Rattle.lab_phase.specs.StopLaws.{AreStopsOf-first}
-use Rattle.lab_run.specs.LabRun.{recorded_from}
-use Rattle.lab_run.specs.Openings.{AreReaderOpenings}
-use Rattle.lab_run.specs.Stage.{Session, Setup, Stage, first_stage, no_reader}
-use Rattle.lab_lines.specs.declared.script.CardLine.{CardLine}
+use Rattle.lab_play.specs.Prelude.{ap, arith, inl, map, refl, subst, suc, sym, take, ◌∙◌, append-nil, length-map, option_map, length, List, Option, ℕ, ℤ, []}
+use Rattle.lab_play.specs.Prelude.{◌++◌, ◌+◌, ◌∷◌, ◌≡◌, Sound, Changes, Files, TookPart, CardLine, Script, recorded_from, AreReaderOpenings, first_stage}
+use Rattle.lab_play.specs.Prelude.{no_reader, Session, Setup, Stage, Lab, capture_of, session_of, Stops, AreStopsOf-first, RunInput, OutputFile, Outputs}
+use Rattle.lab_play.specs.Prelude.{MayHold, nothing, recorded_file, IsGoingOn, head_text, text_so_far, IsNewRun, IsLabOf, IsPlaying, IsStopped, scene}
+use Rattle.lab_play.specs.Prelude.{sounds_at, Start}
 use Rattle.lab_lines.specs.declared.script.ReaderLine.{ReaderLine}
-use Rattle.lab_lines.specs.declared.script.Script.{Script}
-use Rattle.lab_shelf.specs.Changes.{Changes}
-use Rattle.lab_shelf.specs.Files.{Files, TookPart}
-use Rattle.lab_play.specs.Ends.{IsNewRun}
-use Rattle.lab_play.specs.Playing.{IsLabOf, IsPlaying, IsStopped, Start, scene, sounds_at}
 use Rattle.lab_play.proofs.ItemsStopped.{HasStopped-silent, IsStoppedAt-rows}
 
 -- a session has as many readers as its script

@@ -1,47 +1,19 @@
 -- The end of a run: what is written last, and that it is what a run leaves.
-use Rattle.std.specs.Prelude.{◌≡◌, ℕ, ◌≤◌, ℤ, List, [], ◌∷◌, ◌++◌, drop, length, take, Option, Some, None, Result, Ok, Err}
-use Rattle.std.specs.List.{flat_map}
-use Rattle.std.specs.Option.{option_map}
+use Rattle.lab_play.specs.Prelude.{ap, append_assoc, arith, inl, inr, refl, subst, sym, take, ◌∙◌, ◌≤◌, append-nil, length-append, take-append-drop}
+use Rattle.lab_play.specs.Prelude.{flat_map-append, flat_map, option_map, drop, Err, length, List, None, Ok, Option, Result, Some, ℕ, ℤ, [], ◌++◌, ◌∷◌, ◌≡◌}
+use Rattle.lab_play.specs.Prelude.{Sound, Changes, TookPart-all, TookPart-then, Files, TookPart, Item, Report, Row, Script, IsScript, IsReportOf, report_text}
+use Rattle.lab_play.specs.Prelude.{row_line, tail_text, ItemsMay, LabRun, Outcome, outcome_of, recorded_from, IsSessionOf, first_stage, Session, Stage, Lab}
+use Rattle.lab_play.specs.Prelude.{capture_of, items_done, played_of, session_of, HasPlayedMix, LeavesStage, outcome_in, HaveAsked, Stops, AreWithin-counted}
+use Rattle.lab_play.specs.Prelude.{AreSamples, PlaysOneSample, OutcomesAreOfScripts, OutputFile, Outputs, finished_files, MayHold, output_files, KeepSamples}
+use Rattle.lab_play.specs.Prelude.{head_text, tail_from, text_so_far, EndsAt, StopsInHeads, StopsInTail, HasPlayedAsking, sounds_of, IsPlaying, IsStopped}
+use Rattle.lab_play.specs.Prelude.{Scene, scene, sounds_at, Start, text_at, rises}
 use Rattle.std.specs.Result.{IsErrAnd}
-use Rattle.std.proofs.Common.{refl, inl, inr, sym, ap, subst, ◌∙◌, arith, append_assoc}
-use Rattle.std.proofs.lemmas.List.{append-nil, length-append, take-append-drop}
-use Rattle.std.proofs.lemmas.List.Concat.{flat_map-append}
 use Rattle.mix_core.specs.declared.gate.Pass.{Pass}
 use Rattle.mix_core.specs.declared.gate.StepKind.{StepKind}
-use Rattle.wav_io.specs.Sound.{Sound}
 use Rattle.run_laws.specs.Headline.{Headline}
-use Rattle.run_laws.specs.OneSample.{AreSamples, PlaysOneSample}
-use Rattle.lab_output.specs.declared.file.OutputFile.{OutputFile}
-use Rattle.lab_output.specs.declared.outputs.Outputs.{Outputs}
-use Rattle.lab_output.specs.Files.{MayHold, output_files, finished_files}
-use Rattle.lab_output.specs.Going.{KeepSamples}
-use Rattle.lab_output.specs.Text.{head_text, tail_from, text_so_far}
-use Rattle.lab_phase.specs.declared.finish.Outcome as left
-use Rattle.lab_phase.specs.declared.lab.Lab.{Lab}
-use Rattle.lab_phase.specs.AtStage.{capture_of, items_done, played_of, session_of}
-use Rattle.lab_phase.specs.Ended.{HasPlayedMix, LeavesStage, outcome_in}
-use Rattle.lab_phase.specs.PhaseRuns.{HaveAsked, Stops}
-use Rattle.lab_phase.specs.StopLaws.{AreWithin-counted}
-use Rattle.lab_lines.specs.declared.report.Report.{Report}
-use Rattle.lab_lines.specs.declared.row.Row.{Row}
-use Rattle.lab_report.specs.Text.{IsReportOf, report_text, row_line, tail_text}
-use Rattle.run_laws.specs.Reports.{OutcomesAreOfScripts}
-use Rattle.lab_run.specs.LabRun.{LabRun, Outcome, outcome_of, recorded_from}
-use Rattle.lab_run.specs.Openings.{IsSessionOf}
-use Rattle.lab_run.specs.Items.{ItemsMay}
-use Rattle.lab_run.specs.Stage.{Session, Stage, first_stage}
-use Rattle.lab_lines.specs.declared.line.Item.{Item}
-use Rattle.lab_lines.specs.declared.script.Script.{Script}
-use Rattle.lab_lines.specs.Limits.{IsScript}
-use Rattle.lab_shelf.specs.Changes.{Changes, TookPart-all, TookPart-then}
-use Rattle.lab_shelf.specs.Files.{Files, TookPart}
 use Rattle.lab_stop.specs.declared.stop.Stop.{Stop}
-use Rattle.lab_play.specs.Ends.{EndsAt}
-use Rattle.lab_play.specs.Played.{HasPlayedAsking, sounds_of}
-use Rattle.lab_play.specs.Order.{StopsInHeads, StopsInTail}
-use Rattle.lab_play.specs.Playing.{IsPlaying, IsStopped, Scene, Start, scene, sounds_at, text_at}
-use Rattle.lab_play.specs.Stops.{rises}
 use Rattle.lab_play.proofs.ItemsStopped.{HasStopped-closed, IsStoppedAt-rows, TookPart-rows}
+use Rattle.lab_phase.specs.declared.finish.Outcome as left
 
 -- what a law says of each run
 abbrev pub RunFacts : Type 0

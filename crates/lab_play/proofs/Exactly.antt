@@ -1,38 +1,14 @@
 -- A run that stopped, of a script without a mixed phase, whose gates stopped nobody, is on the way to the script's one run.
-use Rattle.std.specs.Prelude.{◌≡◌, ℕ, ◌+◌, ◌≤◌, ℤ, List, [], ◌∷◌, ◌++◌, Option}
-use Rattle.std.specs.List.{flat_map}
-use Rattle.std.proofs.Common.{refl, sym, ap, subst, ◌∙◌, arith, append_assoc}
-use Rattle.std.proofs.lemmas.List.{append-nil}
-use Rattle.std.proofs.lemmas.List.Concat.{flat_map-append}
-use Rattle.wav_io.specs.Sound.{Sound}
-use Rattle.lab_lines.specs.declared.line.Item.{Item}
-use Rattle.lab_lines.specs.declared.report.Report.{Report}
-use Rattle.lab_lines.specs.declared.row.Row.{Row}
-use Rattle.lab_lines.specs.declared.script.Script.{Script}
-use Rattle.lab_lines.specs.Limits.{IsScript}
-use Rattle.lab_report.specs.Text.{report_text, row_line, tail_text}
-use Rattle.lab_run.specs.Items.{ItemsMay, items_text}
-use Rattle.lab_run.specs.LabRun.{AreWithin, CanGoOn, IsOneRun, Outcome, lab_text, outcome_of, recorded_from, report_of}
-use Rattle.lab_run.specs.Openings.{IsSessionOf}
+use Rattle.lab_play.specs.Prelude.{ap, append_assoc, arith, refl, subst, sym, ◌∙◌, ◌≤◌, append-nil, flat_map-append, flat_map, List, Option, ℕ, ℤ, [], ◌++◌}
+use Rattle.lab_play.specs.Prelude.{◌+◌, ◌∷◌, ◌≡◌, Sound, TookPart-first, Files, TookPart, Item, Report, Row, Script, IsScript, report_text, row_line, tail_text}
+use Rattle.lab_play.specs.Prelude.{items_text, ItemsMay, AreWithin, CanGoOn, IsOneRun, lab_text, Outcome, outcome_of, recorded_from, report_of, IsSessionOf}
+use Rattle.lab_play.specs.Prelude.{Reader, AtPort, first_stage, Session, Stage, Stops, AreGrown, StagesGrow, AreBound, RunInput, AreLonger, head_text}
+use Rattle.lab_play.specs.Prelude.{text_so_far, sounds_of, HasStopped, text_at, HaveNoStops}
 use Rattle.lab_run.specs.Phases.{AreUnmixed}
-use Rattle.lab_run.specs.Reader.{Reader}
-use Rattle.lab_run.specs.Rules.{AtPort}
-use Rattle.lab_run.specs.Stage.{Session, Stage, first_stage}
 use Rattle.lab_run.proofs.EachLaws.{StopsGrow}
 use Rattle.lab_run.proofs.RunUnique.{items-grow}
-use Rattle.run_laws.specs.OneSample.{AreBound}
 use Rattle.run_laws.specs.Played.{PlayedStays}
-use Rattle.run_laws.specs.Growth.{AreGrown, StagesGrow}
-use Rattle.lab_input.specs.Input.{RunInput}
-use Rattle.lab_output.specs.Going.{AreLonger}
-use Rattle.lab_output.specs.Text.{head_text, text_so_far}
-use Rattle.lab_phase.specs.PhaseRuns.{Stops}
-use Rattle.lab_shelf.specs.Changes.{TookPart-first}
-use Rattle.lab_shelf.specs.Files.{Files, TookPart}
 use Rattle.lab_play.specs.Exact.{HasStoppedRun, IsFirstPartOf}
-use Rattle.lab_play.specs.Played.{sounds_of}
-use Rattle.lab_play.specs.Playing.{HasStopped, text_at}
-use Rattle.lab_play.specs.Stops.{HaveNoStops}
 use Rattle.lab_play.proofs.ItemsDone.{AreLonger-grown, IsPartOf-longer}
 
 -- what the laws say of runs

@@ -3,39 +3,15 @@
 --     StaysWritten-border      an opening or a closing: all that the lab holds is written still
 --     HasLeftUnwritten-phase      a phase: what it played, recorded and answered isn't written yet
 --     GoesOn-written      and then it is
-use Rattle.std.specs.Prelude.{◌≡◌, ℕ, ◌+◌, ℤ, List, [], ◌∷◌, ◌++◌, length, take, slice_get, Option, Some}
-use Rattle.std.specs.Option.{option_map}
-use Rattle.std.proofs.Common.{sym, ap, subst, ◌∙◌, arith}
-use Rattle.std.proofs.lemmas.List.{length-append, take-append-le}
-use Rattle.std.proofs.Math.Seq.{take-append_seam}
-use Rattle.wav_io.specs.Sound.{Sound}
-use Rattle.lab_lines.specs.declared.line.Item.{Item}
-use Rattle.lab_lines.specs.declared.line.Item.TheVariants as item
-use Rattle.lab_lines.specs.declared.line.Line.{Line}
-use Rattle.lab_lines.specs.declared.script.Script.{Script}
-use Rattle.lab_lines.specs.declared.row.Row.{Row}
-use Rattle.lab_run.specs.Items.{ItemMay}
-use Rattle.lab_run.specs.LabRun.{recorded_from}
-use Rattle.lab_run.specs.Openings.{IsSessionOf}
-use Rattle.lab_run.specs.Reader.{Reader}
-use Rattle.lab_run.specs.Rules.{AtPort}
-use Rattle.lab_run.specs.ScriptWords.{IsReached}
-use Rattle.lab_run.specs.Stage.{Session, Stage}
-use Rattle.run_laws.specs.Growth.{AreGrown, BordersKeepFrames, StagesGrow, frames_of_readers, recorded_from-grown, recorded_from-same}
-use Rattle.lab_phase.specs.declared.lab.Lab.{Lab}
-use Rattle.lab_phase.specs.AtStage.{DoesItem, IsBorderItem, IsNextItem, IsOfScript, IsSameScript, capture_of, played_of, session_of}
-use Rattle.lab_phase.specs.BorderLaws.{session_of-same}
-use Rattle.lab_phase.specs.AskLaws.{HaveSameAsks-border, HaveSameAsks-none}
-use Rattle.lab_phase.specs.PhaseRuns.{DoesPhase, StaysAtStage, Stops}
-use Rattle.lab_phase.specs.StopLaws.{AreStopsOf-border}
-use Rattle.lab_output.specs.declared.outputs.Outputs.{Outputs}
-use Rattle.lab_output.specs.Going.{AreLonger, IsPartOf}
-use Rattle.lab_output.specs.Text.{text_so_far}
-use Rattle.lab_shelf.specs.Changes.{TookPart-all}
-use Rattle.lab_shelf.specs.Files.{Files}
-use Rattle.lab_play.specs.Order.{StopsInFrames}
-use Rattle.lab_play.specs.Playing.{AreWritten, GoesOn, HasUnwrittenPhase, IsPlaying, Scene, Start, StaysWritten, scene, sounds_at}
+use Rattle.lab_play.specs.Prelude.{ap, arith, subst, sym, take, ◌∙◌, take-append_seam, length-append, take-append-le, option_map, length, List, Option}
+use Rattle.lab_play.specs.Prelude.{slice_get, Some, ℕ, ℤ, [], ◌++◌, ◌+◌, ◌∷◌, ◌≡◌, Sound, TookPart-all, Files, Item, Line, Row, Script, ItemMay, recorded_from}
+use Rattle.lab_play.specs.Prelude.{IsSessionOf, Reader, AtPort, IsReached, Session, Stage, Lab, HaveSameAsks-border, HaveSameAsks-none, capture_of, DoesItem}
+use Rattle.lab_play.specs.Prelude.{IsBorderItem, IsNextItem, IsOfScript, IsSameScript, played_of, session_of, session_of-same, DoesPhase, StaysAtStage, Stops}
+use Rattle.lab_play.specs.Prelude.{AreStopsOf-border, AreGrown, BordersKeepFrames, frames_of_readers, recorded_from-grown, recorded_from-same, StagesGrow}
+use Rattle.lab_play.specs.Prelude.{Outputs, AreLonger, IsPartOf, text_so_far, StopsInFrames, AreWritten, GoesOn, HasUnwrittenPhase, IsPlaying, Scene, scene}
+use Rattle.lab_play.specs.Prelude.{sounds_at, Start, StaysWritten}
 use Rattle.lab_play.proofs.ItemsStopped.{TookPart-rows}
+use Rattle.lab_lines.specs.declared.line.Item.TheVariants as item
 
 -- ---- the lab
 

@@ -1,6 +1,5 @@
 -- What a call answers that stopped.
-use Rattle.std.specs.Prelude.{◌≡◌, Result, Ok, Err, IsErrAnd, OnErr, OnOk}
-use Rattle.std.proofs.Common.{ap}
+use Rattle.lab_play.specs.Prelude.{ap, Err, IsErrAnd, Ok, OnErr, OnOk, Result, ◌≡◌}
 
 pub OnErr-more : {X E : Type 0} (P Q : Type 0) (r : Result X E) → (P → Q) → OnErr r P → OnErr r Q
 OnErr-more P Q (Ok x) more is = tt

@@ -3,41 +3,18 @@
 --     IsStoppedAt-playing      nothing was written since all that the lab holds was written
 --     HasStopped-closed, HasStopped-silent      once the lab's rings are closed, or where it played nothing
 --     stops-in_rows      the files of a run hold all that its lab holds
-use Rattle.std.specs.Prelude.{◌≡◌, ℕ, ◌-◌, ◌*◌, ℤ, List, [], ◌∷◌, ◌++◌, drop, length, map, take, Option, Some, None, IsSomeAnd}
-use Rattle.std.specs.List.{flat_map, range_with_len}
-use Rattle.std.specs.Option.{option_map}
-use Rattle.std.proofs.Common.{inl, inr, sym, ap, subst, ◌∙◌, append_assoc}
-use Rattle.std.proofs.lemmas.List.{take-append-drop}
-use Rattle.std.proofs.lemmas.List.Concat.{flat_map-append}
-use Rattle.snd_base.specs.Places as rings
-use Rattle.wav_io.specs.Sound.{Sound}
-use Rattle.lab_lines.specs.declared.line.Item.{Item}
-use Rattle.lab_lines.specs.declared.script.CardLine.{CardLine}
-use Rattle.lab_lines.specs.declared.script.Script.{Script}
+use Rattle.lab_play.specs.Prelude.{ap, append_assoc, inl, inr, map, subst, sym, take, ◌-◌, ◌∙◌, take-append-drop, flat_map-append, flat_map, range_with_len}
+use Rattle.lab_play.specs.Prelude.{option_map, drop, IsSomeAnd, length, List, None, Option, Some, ℕ, ℤ, [], ◌*◌, ◌++◌, ◌∷◌, ◌≡◌, Sound, Changes, TookPart-all}
+use Rattle.lab_play.specs.Prelude.{TookPart-first, Files, TookPart, Item, Row, CardLine, Script, row_line, tail_text, all_segments, entries_of, mix_of}
+use Rattle.lab_play.specs.Prelude.{mixed_at, recorded_from, report_of, IsSessionOf, IsReached, Session, Stage, Lab, capture_of, IsCardOf, played_by, played_of}
+use Rattle.lab_play.specs.Prelude.{session_of, HasPlayedMix, Stops, AreWithin-counted, OutputFile, MayHold, output_files, unfinished_files, AreLonger-same}
+use Rattle.lab_play.specs.Prelude.{IsGoingOn-Changes, head_text, text_so_far, RowsFollowFrames, StopsInRows, IsLabOf, IsPlaying, IsStopped, IsStoppedAt, Scene}
+use Rattle.lab_play.specs.Prelude.{sounds_at, Start, text_at, IsWithinStops, rises}
 use Rattle.lab_lines.specs.Script.{first_frame}
-use Rattle.lab_lines.specs.declared.row.Row.{Row}
-use Rattle.lab_report.specs.Text.{row_line, tail_text}
-use Rattle.lab_run.specs.LabRun.{all_segments, entries_of, mix_of, mixed_at, recorded_from, report_of}
-use Rattle.lab_run.specs.Openings.{IsSessionOf}
-use Rattle.lab_run.specs.ScriptWords.{IsReached}
-use Rattle.lab_run.specs.Stage.{Session, Stage}
 use Rattle.lab_card.specs.declared.card.CardActor.{CardActor}
 use Rattle.lab_card.specs.Moves.{frames_since_first, geometry_of_card}
-use Rattle.lab_phase.specs.declared.lab.Lab.{Lab}
-use Rattle.lab_phase.specs.AtStage.{IsCardOf, capture_of, played_by, played_of, session_of}
 use Rattle.lab_phase.specs.CardStage.{IsCardIn}
-use Rattle.lab_phase.specs.Ended.{HasPlayedMix}
-use Rattle.lab_phase.specs.PhaseRuns.{Stops}
-use Rattle.lab_phase.specs.StopLaws.{AreWithin-counted}
-use Rattle.lab_output.specs.declared.file.OutputFile.{OutputFile}
-use Rattle.lab_output.specs.Files.{MayHold, unfinished_files, output_files}
-use Rattle.lab_output.specs.GoingLaws.{AreLonger-same, IsGoingOn-Changes}
-use Rattle.lab_output.specs.Text.{head_text, text_so_far}
-use Rattle.lab_shelf.specs.Changes.{Changes, TookPart-all, TookPart-first}
-use Rattle.lab_shelf.specs.Files.{Files, TookPart}
-use Rattle.lab_play.specs.Order.{RowsFollowFrames, StopsInRows}
-use Rattle.lab_play.specs.Playing.{IsLabOf, IsPlaying, IsStopped, IsStoppedAt, Scene, Start, sounds_at, text_at}
-use Rattle.lab_play.specs.Stops.{IsWithinStops, rises}
+use Rattle.snd_base.specs.Places as rings
 
 -- ---- what its card played
 

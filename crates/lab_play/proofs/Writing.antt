@@ -1,28 +1,13 @@
 -- Outputs that are written one after the other: of the first ones all samples are written, of the rest those from before.
-use Rattle.std.proofs.Common.{◌≡◌, ℕ, ◌+◌, ◌<◌, ◌≤◌, List, [], ◌∷◌, length, take, map, get_or, arith, refl, sym, ap, subst, ◌∙◌, suc, zero, Some}
+use Rattle.lab_play.specs.Prelude.{ap, arith, get_or, map, refl, subst, suc, sym, take, zero, ◌<◌, ◌∙◌, ◌≤◌, take-length, length-map, length-take, take_min}
+use Rattle.lab_play.specs.Prelude.{All, length, List, Option, slice_get, slice_index_or, slice_set, Some, ℕ, ℤ, [], ◌+◌, ◌∷◌, ◌≡◌, Changes, Files, recorded_by}
+use Rattle.lab_play.specs.Prelude.{Reader, AtPort, Stage, Lab, capture_of, IsAtStage, readers_in, session_of, recorded_from-at, recorded_from-size}
+use Rattle.lab_play.specs.Prelude.{CountsNoFault, OutputFile, Outputs, MayHold, AreLonger, AreOutputs, FitsWavFile, IsGoingOn, IsPartOf, sounds_at}
 use Rattle.std.proofs.Math.ListN.{set}
-use Rattle.std.proofs.Math.Seq.{take-length}
 use Rattle.std.proofs.Math.Nat.{min-le_right}
-use Rattle.std.proofs.lemmas.List.{length-map, length-take, take_min}
-use Rattle.std.specs.Prelude.{ℤ, Option, All, slice_get, slice_index_or, slice_set}
-use Rattle.lab_run.specs.LabRun.{recorded_by}
-use Rattle.lab_run.specs.Reader.{Reader}
-use Rattle.lab_run.specs.Rules.{AtPort}
-use Rattle.lab_run.specs.Stage.{Stage}
 use Rattle.lab_actors.specs.Walks.{AreEach-length}
 use Rattle.lab_readers.specs.AtStage.{readers_of}
-use Rattle.lab_phase.specs.declared.lab.Lab.{Lab}
-use Rattle.lab_phase.specs.AtStage.{IsAtStage, capture_of, readers_in, session_of}
-use Rattle.run_laws.specs.Growth.{recorded_from-at, recorded_from-size}
-use Rattle.lab_shelf.specs.Changes.{Changes}
 use Rattle.lab_shelf.specs.declared.traits.Shelf as shelves
-use Rattle.lab_shelf.specs.Files.{Files}
-use Rattle.lab_stop.specs.Effects.{CountsNoFault}
-use Rattle.lab_output.specs.declared.file.OutputFile.{OutputFile}
-use Rattle.lab_output.specs.declared.outputs.Outputs.{Outputs}
-use Rattle.lab_output.specs.Files.{MayHold}
-use Rattle.lab_output.specs.Going.{AreLonger, AreOutputs, FitsWavFile, IsGoingOn, IsPartOf}
-use Rattle.lab_play.specs.Playing.{sounds_at}
 
 -- ---- the samples of one output
 

@@ -1,28 +1,13 @@
 -- What a phase writes: that it fits into WAV files and a report, and what the run is once it is written, or where that stopped.
-use Rattle.std.proofs.Common.{◌≡◌, ℕ, ◌<◌, ◌≤◌, List, [], ◌++◌, length, take, map, get_or, arith, inl, inr, refl, sym, ap, subst, ◌∙◌, suc, zero, option_map}
-use Rattle.std.proofs.Math.Seq.{take-length}
-use Rattle.std.proofs.lemmas.List.{get_or_default, length-map}
-use Rattle.std.specs.Prelude.{ℤ, Option, All, OnOk, OnErr, Ok, Err, Result}
-use Rattle.lab_lines.specs.declared.script.Script.{Script}
-use Rattle.lab_lines.specs.declared.row.Row.{Row}
-use Rattle.lab_report.specs.Text.{IsRowOf}
-use Rattle.lab_run.specs.LabRun.{outcome_of, recorded_from}
-use Rattle.lab_run.specs.Stage.{Stage}
-use Rattle.lab_phase.specs.declared.lab.Lab.{Lab}
-use Rattle.lab_phase.specs.AtStage.{IsAtStage, IsCardOf, capture_of, played_of, rows_of, session_of}
-use Rattle.lab_phase.specs.PhaseRuns.{Stops}
-use Rattle.run_laws.specs.Reports.{StagesAreReported}
+use Rattle.lab_play.specs.Prelude.{ap, arith, get_or, inl, inr, map, refl, subst, suc, sym, take, zero, ◌<◌, ◌∙◌, ◌≤◌, take-length, get_or_default, length-map}
+use Rattle.lab_play.specs.Prelude.{All, Err, length, List, Ok, OnErr, OnOk, Option, Result, ℕ, ℤ, [], ◌++◌, ◌≡◌, Changes, TookPart-all, Files, TookPart, Row}
+use Rattle.lab_play.specs.Prelude.{Script, IsRowOf, outcome_of, recorded_from, Stage, Lab, capture_of, IsAtStage, IsCardOf, played_of, rows_of, session_of}
+use Rattle.lab_play.specs.Prelude.{Stops, StagesAreReported, OutputFile, Outputs, AreApart, IsOutputFile, MayHold, output_files, AreLonger, AreOutputs}
+use Rattle.lab_play.specs.Prelude.{FitsWavFile, IsGoingOn, rows_text, text_so_far, GoesOn, HasUnwrittenPhase, IsStoppedAt, scene, sounds_at, Start}
+use Rattle.std.proofs.Common.{option_map}
 use Rattle.run_laws.specs.Sizes.{HasSizes, StagesHaveSizes}
-use Rattle.lab_output.specs.declared.file.OutputFile.{OutputFile}
-use Rattle.lab_output.specs.declared.outputs.Outputs.{Outputs}
-use Rattle.lab_output.specs.Files.{IsOutputFile, AreApart, MayHold, output_files}
-use Rattle.lab_output.specs.Going.{AreLonger, AreOutputs, FitsWavFile, IsGoingOn}
 use Rattle.lab_output.specs.Laws.{text_so_far-next, text_so_far-part}
-use Rattle.lab_output.specs.Text.{rows_text, text_so_far}
-use Rattle.lab_shelf.specs.Changes.{Changes, TookPart-all}
-use Rattle.lab_shelf.specs.Files.{Files, TookPart}
 use Rattle.lab_play.specs.Appending.{CanAppend}
-use Rattle.lab_play.specs.Playing.{GoesOn, HasUnwrittenPhase, IsStoppedAt, Start, scene, sounds_at}
 use Rattle.lab_play.proofs.ItemsStopped.{IsStoppedAt-rows, TookPart-rows, frames-card, stops-in_rows}
 use Rattle.lab_play.proofs.Writing.{count-at, longer-length, member}
 

@@ -4,4 +4,5 @@ pub mod Exact
 pub mod Order
 pub mod Played
 pub mod Playing
+pub mod Prelude
 pub mod Stops

@@ -1,37 +1,16 @@
 -- What a line of an open reader is answered, as a run has it.
-use Rattle.std.proofs.Common.{◌≡◌, ℕ, ◌<◌, ◌≤◌, List, [], ◌++◌, refl, sym, ◌∙◌, ap, subst, arith}
-use Rattle.std.proofs.Math.Nat.{min-eq_left}
-use Rattle.std.proofs.lemmas.Bool.Decides.{nat_tests}
-use Rattle.std.proofs.lemmas.List.{append-nil}
-use Rattle.std.specs.Prelude.{Bool, true, false, nat_le, min, ℤ, Option, Some}
-use Rattle.snd_base.specs.declared.errors.PcmError.TheVariants.{Stopped}
-use Rattle.snd_base.specs.declared.geometry.Geometry.{Geometry}
-use Rattle.snd_base.specs.Relations.{Composes}
+use Rattle.lab_readers.specs.Prelude.{ap, arith, List, refl, subst, sym, ℕ, [], ◌++◌, ◌<◌, ◌∙◌, ◌≡◌, ◌≤◌, min-eq_left, nat_tests, append-nil, Bool, false, min}
+use Rattle.lab_readers.specs.Prelude.{nat_le, Option, Some, true, ℤ, Stopped, Geometry, Composes, GetsAtSnoop, LoadsAtSnoop, NoLay, TakesAtSnoop, ends}
+use Rattle.lab_readers.specs.Prelude.{Takes-parts, Takes-then, CaptureStream, Answered, if_admitted, read_course, most_read, read_course-fewer, CanUse, Op}
+use Rattle.lab_readers.specs.Prelude.{Answer, Count, Done, Failed, count_answer, call_of, frames_by, IsReaderLine, ReaderLinesAreParts, ReaderLinesWithoutCall}
+use Rattle.lab_readers.specs.Prelude.{got_by, AreSamples, HasRead, HasReaderAnswered, HasReaderCalled, Progress, asked_by, fitting_op, wanted_by}
+use Rattle.lab_run.specs.ClientAtPort.{is_die}
+use Rattle.lab_readers.proofs.CallProgress.{Progress-same, call-makes}
+use Rattle.lab_readers.proofs.Called.{HasLoaded-none, HasRead-none, frames-none, got-none, loaded-some}
 use Rattle.mix_core.specs.declared.gate.Gate as gates
 use Rattle.snoop_core.specs.declared.port.SnoopPort as snoopport
-use Rattle.course.specs.AtSnoopPort.{GetsAtSnoop, LoadsAtSnoop, NoLay, TakesAtSnoop}
-use Rattle.course.specs.Course.{ends}
-use Rattle.course.specs.CourseLaws.{Takes-parts, Takes-then}
 use Rattle.pcm_states.specs.declared.calls.Call.TheVariants as call
-use Rattle.dsnoop_client.specs.declared.stream.CaptureStream.{CaptureStream}
-use Rattle.dsnoop_client.specs.Calls.{Answered}
-use Rattle.dsnoop_client.specs.Course.{if_admitted, read_course}
-use Rattle.dsnoop_client.specs.FewerReads.{most_read, read_course-fewer}
-use Rattle.dsnoop_client.specs.View.{CanUse}
-use Rattle.lab_lines.specs.declared.line.Op.{Op}
 use Rattle.lab_lines.specs.declared.line.Op.TheVariants as op
-use Rattle.lab_lines.specs.declared.row.Answer.{Answer}
-use Rattle.lab_lines.specs.declared.row.Answer.TheVariants.{Count, Done, Failed}
-use Rattle.lab_run.specs.Client.{count_answer}
-use Rattle.lab_run.specs.ClientAtPort.{is_die}
-use Rattle.lab_run.specs.Reader.{call_of, frames_by}
-use Rattle.lab_run.specs.ReaderAtPort.{IsReaderLine, ReaderLinesAreParts, ReaderLinesWithoutCall}
-use Rattle.lab_run.specs.Stretches.{got_by}
-use Rattle.lab_readers.specs.Progress.{Progress}
-use Rattle.lab_readers.specs.Lines.{AreSamples, HasReaderAnswered, HasReaderCalled, HasRead}
-use Rattle.lab_readers.specs.Room.{asked_by, fitting_op, wanted_by}
-use Rattle.lab_readers.proofs.Called.{HasLoaded-none, HasRead-none, frames-none, got-none, loaded-some}
-use Rattle.lab_readers.proofs.CallProgress.{Progress-same, call-makes}
 
 -- a read of no more frames than there is room for counts as any read does
 got-fitting : (asked : Op) (spare : ℕ) (answer : Answer) → got_by (fitting_op spare asked) answer ≡ got_by asked answer

@@ -1,13 +1,7 @@
 -- How many frames an actor's lines ask to read.
-use Rattle.std.proofs.Common.{◌≡◌, ℕ, ◌+◌, ◌<◌, ◌≤◌, List, [], ◌∷◌, ◌++◌, refl, sym, ◌∙◌, ap, arith, length, get_or, take, drop}
-use Rattle.std.proofs.lemmas.List.{take-append-drop}
-use Rattle.std.proofs.lemmas.List.Sums.{sum_by-append, sum_by-cons, sum_by_push}
-use Rattle.std.specs.Prelude.{Bool, true, false, if◌then◌else◌, sum_by}
-use Rattle.lab_lines.specs.declared.line.Actor.{Actor}
-use Rattle.lab_lines.specs.declared.line.Line.{Line}
-use Rattle.lab_run.specs.Phases.{ops_by}
-use Rattle.lab_actors.specs.LineLaws.{ops_by-append, own-line, other-line}
-use Rattle.lab_readers.specs.Room.{asked_by}
+use Rattle.lab_readers.specs.Prelude.{ap, arith, drop, get_or, length, List, refl, sym, take, ℕ, [], ◌++◌, ◌+◌, ◌<◌, ◌∙◌, ◌∷◌, ◌≡◌, ◌≤◌, take-append-drop}
+use Rattle.lab_readers.specs.Prelude.{sum_by-append, sum_by-cons, sum_by_push, Bool, false, if◌then◌else◌, sum_by, true, Actor, Line, ops_by, ops_by-append}
+use Rattle.lab_readers.specs.Prelude.{other-line, own-line, asked_by}
 
 -- how many frames they ask to read up to the next one
 pub asked-next : (mine : Actor → Bool) (lines : List Line) (k : ℕ) (line : Line) → k < length lines → get_or lines k line ≡ line

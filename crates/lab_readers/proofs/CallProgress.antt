@@ -1,40 +1,20 @@
 -- The progress that each call of a reader makes, by what it did at its port.
-use Rattle.std.proofs.Common.{◌≡◌, ℕ, ◌+◌, ◌≤◌, suc, zero, refl, sym, ◌∙◌, ap, subst, arith, inl, inr}
-use Rattle.std.proofs.lemmas.Bool.{false≢true}
-use Rattle.std.proofs.lemmas.Bool.Decides.{nat_tests}
-use Rattle.std.specs.Prelude.{◌⊎◌, ◌&&◌, Bool, true, false, nat_eq, nat_le, nat_lt, if◌then◌else◌, min, Option, Some, None, Result, Ok, Err, unwrap_or}
-use Rattle.snd_base.specs.declared.errors.PcmError.{PcmError}
-use Rattle.snd_base.specs.declared.errors.PcmError.TheVariants.{Again}
-use Rattle.snd_base.specs.declared.geometry.Geometry.{Geometry}
-use Rattle.mix_core.specs.declared.gate.Gate as gates
+use Rattle.lab_readers.specs.Prelude.{ap, arith, Err, inl, inr, None, refl, Result, subst, suc, sym, zero, ℕ, ◌+◌, ◌∙◌, ◌≡◌, ◌≤◌, false≢true, nat_tests, Bool}
+use Rattle.lab_readers.specs.Prelude.{false, if◌then◌else◌, min, nat_eq, nat_le, nat_lt, Ok, Option, Some, true, unwrap_or, ◌&&◌, ◌⊎◌, PcmError, Again}
+use Rattle.lab_readers.specs.Prelude.{Geometry, Call, State, Capture, refusal_of, SnoopView, GetsAtSnoop, LoadsAtSnoop, NoLay, TakesAtSnoop, Course, ends}
+use Rattle.lab_readers.specs.Prelude.{Takes-parts, CaptureStream, Answered, facts_with, in_state, read_after, read_to, seen_at, taken_of, waits, with_avail}
+use Rattle.lab_readers.specs.Prelude.{with_outcome, admitted_by, counts, gets_frames, one_more, read_course, reads_first, reads_on, starts, syncs, transfer_on}
+use Rattle.lab_readers.specs.Prelude.{transfers, count_of_answer, avail_of, is_running, Op, Answer, count_answer, done_answer, call_answer, call_of, got_by}
+use Rattle.lab_readers.specs.Prelude.{least_next, least_next-seen, Progress, asked_by}
+use Rattle.pcm_states.specs.Table.{next_of}
 use Rattle.mix_core.specs.declared.port.Position.{Position}
 use Rattle.snoop_core.specs.declared.port.Got.{Got}
 use Rattle.snoop_core.specs.declared.port.Got.TheVariants.{Whole, Overtaken, Stopped}
+use Rattle.mix_core.specs.declared.gate.Gate as gates
 use Rattle.snoop_core.specs.declared.port.SnoopPort as snoopport
-use Rattle.snoop_core.specs.Port.{SnoopView}
-use Rattle.course.specs.AtSnoopPort.{GetsAtSnoop, LoadsAtSnoop, NoLay, TakesAtSnoop}
-use Rattle.course.specs.Course.{Course, ends}
-use Rattle.course.specs.CourseLaws.{Takes-parts}
-use Rattle.pcm_states.specs.declared.calls.Call.{Call}
 use Rattle.pcm_states.specs.declared.calls.Call.TheVariants as call
-use Rattle.pcm_states.specs.declared.states.State.{State}
 use Rattle.pcm_states.specs.declared.states.State.TheVariants as state
-use Rattle.pcm_states.specs.Table.{next_of}
-use Rattle.pcm_stream.specs.Status.{refusal_of}
-use Rattle.pcm_stream.specs.declared.direction.Direction.TheVariants.{Capture}
-use Rattle.dsnoop_client.specs.declared.stream.CaptureStream.{CaptureStream}
-use Rattle.dsnoop_client.specs.Calls.{Answered, facts_with, in_state, read_after, read_to, seen_at, taken_of, waits, with_avail, with_outcome}
-use Rattle.dsnoop_client.specs.Course.{admitted_by, counts, gets_frames, one_more, read_course, reads_first, reads_on, starts, syncs, transfer_on, transfers}
-use Rattle.dsnoop_client.specs.Reads.{count_of_answer}
-use Rattle.dsnoop_client.specs.View.{avail_of, is_running}
-use Rattle.lab_lines.specs.declared.line.Op.{Op}
 use Rattle.lab_lines.specs.declared.line.Op.TheVariants as op
-use Rattle.lab_lines.specs.declared.row.Answer.{Answer}
-use Rattle.lab_run.specs.Client.{count_answer, done_answer}
-use Rattle.lab_run.specs.Reader.{call_answer, call_of}
-use Rattle.lab_run.specs.Stretches.{got_by}
-use Rattle.lab_readers.specs.Progress.{Progress, least_next, least_next-seen}
-use Rattle.lab_readers.specs.Room.{asked_by}
 
 -- ---- of a reader
 

@@ -1,43 +1,19 @@
 -- The call that a line of a reader names, from what the reader's call says.
-use Rattle.std.proofs.Common.{◌≡◌, ℕ, ◌+◌, ◌*◌, ◌≤◌, List, [], ◌∷◌, ◌++◌, refl, sym, ◌∙◌, ap, append_assoc, subst, arith, drop, length, take, zero-mul}
-use Rattle.std.proofs.Math.Nat.{mul-div_cancel, mul-mod_left, suc-mul}
-use Rattle.std.proofs.Math.Seq.{take-append-add, take-append_seam}
-use Rattle.std.proofs.lemmas.List.{append-nil, length-append, length-drop, length-map, length-replicate, length-take, take_at}
-use Rattle.std.proofs.lemmas.List.Elements.{All-contains_itself, All-nil}
-use Rattle.std.specs.Prelude.{◌-◌, ◌/◌, ◌%◌, ℤ, min, pos, replicate, slice_index_or, Contains, Option, Some, None, Result, Ok, Err}
-use Rattle.std.specs.Option.{option_to_list}
+use Rattle.lab_readers.specs.Prelude.{ap, append_assoc, arith, drop, Err, length, List, None, refl, Result, slice_index_or, subst, sym, take, zero-mul, ℕ, []}
+use Rattle.lab_readers.specs.Prelude.{◌*◌, ◌++◌, ◌+◌, ◌∙◌, ◌∷◌, ◌≡◌, ◌≤◌, mul-div_cancel, mul-mod_left, suc-mul, take-append-add, take-append_seam, append-nil}
+use Rattle.lab_readers.specs.Prelude.{length-append, length-drop, length-map, length-replicate, length-take, take_at, All-contains_itself, All-nil}
+use Rattle.lab_readers.specs.Prelude.{range_with_len, option_to_list, Contains, min, Ok, Option, pos, replicate, Some, ℤ, ◌%◌, ◌-◌, ◌/◌, PcmError, BadState}
+use Rattle.lab_readers.specs.Prelude.{Composes, Call, State, Capture, refusal_of, Frame, frame_if, numbered_frame, GetsAtSnoop, LoadsAtSnoop, NoLay}
+use Rattle.lab_readers.specs.Prelude.{TakesAtSnoop, Course, ends, Takes-keeps_getting, Takes-map, CaptureStream, Answered, in_state, admitted_by, if_admitted}
+use Rattle.lab_readers.specs.Prelude.{read_course, most_read, read_course-fewer, bound_samples, GivesFrames, through_all, CanRead, CanUse, frames_in, Op}
+use Rattle.lab_readers.specs.Prelude.{Answer, Count, Failed, count_answer, done_answer, call_answer, call_of, frames_by, got_by, AreSamples, HasLoaded, HasRead}
+use Rattle.lab_readers.specs.Prelude.{HasReaderCalled, HasSameSetup}
 use Rattle.std.specs.Result.{result_unwrap_or}
-use Rattle.std.specs.List.{range_with_len}
-use Rattle.snd_base.specs.declared.errors.PcmError.{PcmError}
-use Rattle.snd_base.specs.declared.errors.PcmError.TheVariants.{BadState}
-use Rattle.snd_base.specs.Relations.{Composes}
-use Rattle.mix_core.specs.declared.gate.Gate as gates
-use Rattle.snoop_core.specs.declared.port.Frame.{Frame}
-use Rattle.snoop_core.specs.declared.port.SnoopPort as snoopport
-use Rattle.snoop_core.specs.Port.{frame_if, numbered_frame}
-use Rattle.course.specs.AtSnoopPort.{GetsAtSnoop, LoadsAtSnoop, NoLay, TakesAtSnoop}
-use Rattle.course.specs.Course.{Course, ends}
-use Rattle.course.specs.CourseLaws.{Takes-keeps_getting, Takes-map}
-use Rattle.pcm_states.specs.declared.calls.Call.{Call}
-use Rattle.pcm_states.specs.declared.calls.Call.TheVariants as call
-use Rattle.pcm_states.specs.declared.states.State.{State}
-use Rattle.pcm_stream.specs.Status.{refusal_of}
-use Rattle.pcm_stream.specs.declared.direction.Direction.TheVariants.{Capture}
-use Rattle.dsnoop_client.specs.declared.stream.CaptureStream.{CaptureStream}
-use Rattle.dsnoop_client.specs.Calls.{Answered, in_state}
-use Rattle.dsnoop_client.specs.Course.{if_admitted, admitted_by, read_course}
-use Rattle.dsnoop_client.specs.FewerReads.{most_read, read_course-fewer}
 use Rattle.dsnoop_client.specs.Port.{Keeps}
-use Rattle.dsnoop_client.specs.Reads.{GivesFrames, bound_samples, through_all}
-use Rattle.dsnoop_client.specs.View.{CanRead, CanUse, frames_in}
-use Rattle.lab_lines.specs.declared.line.Op.{Op}
+use Rattle.mix_core.specs.declared.gate.Gate as gates
+use Rattle.snoop_core.specs.declared.port.SnoopPort as snoopport
+use Rattle.pcm_states.specs.declared.calls.Call.TheVariants as call
 use Rattle.lab_lines.specs.declared.line.Op.TheVariants as op
-use Rattle.lab_lines.specs.declared.row.Answer.{Answer}
-use Rattle.lab_lines.specs.declared.row.Answer.TheVariants.{Count, Failed}
-use Rattle.lab_run.specs.Client.{count_answer, done_answer}
-use Rattle.lab_run.specs.Reader.{call_answer, call_of, frames_by}
-use Rattle.lab_run.specs.Stretches.{got_by}
-use Rattle.lab_readers.specs.Lines.{AreSamples, HasReaderCalled, HasLoaded, HasRead, HasSameSetup}
 
 -- as many samples as frames times channels
 pub length-through : (bindings : List ℕ) (frames : List Frame) → length (through_all bindings frames) ≡ length frames * length bindings

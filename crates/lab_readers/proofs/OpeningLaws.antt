@@ -1,28 +1,16 @@
 -- What an opening and a closing make of a reader, by whether it is open.
-use Rattle.std.proofs.Common.{◌≡◌, ◌≢◌, ◌↔◌, ◌<◌, ℕ, Bool, true, false, List, [], ◌∷◌, length, Option, None, Some, Result, Ok, Err, IfOk, IsSome, IsTrue, get_or, refl, sym, ap, subst, ◌∙◌}
-use Rattle.std.proofs.lemmas.Bool.{false≢true}
-use Rattle.snd_base.specs.declared.errors.PcmError.{PcmError}
+use Rattle.lab_readers.specs.Prelude.{ap, Err, get_or, IfOk, IsSome, IsTrue, length, List, None, refl, Result, subst, sym, ℕ, [], ◌<◌, ◌↔◌, ◌∙◌, ◌∷◌, ◌≡◌, ◌≢◌}
+use Rattle.lab_readers.specs.Prelude.{false≢true, Bool, false, Ok, Option, Some, true, PcmError, CaptureStream, Op, Done, Row, Reader, row_by, after_close}
+use Rattle.lab_readers.specs.Prelude.{after_open, Session, Setup, Stage, LabReader, LabReaders, AreAfter, IsOfRing, readers_of, spare_of, HasGotAllOf-join}
+use Rattle.lab_readers.specs.Prelude.{HasClosed, HasOpened, number_of, OnSeat, reader_in, stream_at, AreAfter-closing, AreAfter-opening, Exchanges, HasClosing}
+use Rattle.lab_readers.specs.Prelude.{HasOpening, IsItemAt, is_some_op}
 use Rattle.snoop_table.specs.declared.seats.reader.ReaderSeat.{ReaderSeat}
 use Rattle.snoop_table.specs.Joins.{HasJoined}
 use Rattle.snoop_table.specs.Readers.{SameReader}
-use Rattle.pcm_states.specs.declared.states.State.TheVariants as state
-use Rattle.dsnoop_client.specs.declared.stream.CaptureStream.{CaptureStream}
 use Rattle.wav_io.specs.Sound.{Sound}
+use Rattle.pcm_states.specs.declared.states.State.TheVariants as state
 use Rattle.lab_lines.specs.declared.line.Actor.TheVariants as actor
-use Rattle.lab_lines.specs.declared.line.Op.{Op}
 use Rattle.lab_lines.specs.declared.line.Op.TheVariants as op
-use Rattle.lab_lines.specs.declared.row.Answer.TheVariants.{Done}
-use Rattle.lab_lines.specs.declared.row.Row.{Row}
-use Rattle.lab_run.specs.Reader.{Reader, row_by}
-use Rattle.lab_run.specs.Stage.{Session, Setup, Stage, after_close, after_open}
-use Rattle.lab_readers.specs.declared.reader.LabReader.{LabReader}
-use Rattle.lab_readers.specs.OneReader.{OnSeat, number_of, reader_in, stream_at}
-use Rattle.lab_readers.specs.OneOpening.{HasClosed, HasOpened}
-use Rattle.lab_readers.specs.declared.readers.LabReaders.{LabReaders}
-use Rattle.lab_readers.specs.AtStage.{AreAfter, IsOfRing, readers_of, spare_of}
-use Rattle.lab_readers.specs.Kept.{HasGotAllOf-join}
-use Rattle.lab_readers.specs.Opening.{AreAfter-closing, AreAfter-opening, Exchanges, HasClosing, HasOpening, IsItemAt}
-use Rattle.lab_readers.specs.Steps.{is_some_op}
 
 -- one that isn't open has no seat
 pub no_seat : {X : Type 0} (seat : Option X) (b : Bool) → (IsTrue b ↔ IsSome seat) → b ≡ false → seat ≡ None

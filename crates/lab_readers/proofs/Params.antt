@@ -1,20 +1,12 @@
 -- A stream that is set up with an opening which fits it takes the opening's software parameters.
-use Rattle.std.proofs.Common.{◌≡◌, ℕ, Result, Err, None, refl, subst, arith}
-use Rattle.snd_base.specs.declared.errors.PcmError.{PcmError}
-use Rattle.snd_base.specs.declared.errors.PcmError.TheVariants.{Invalid}
+use Rattle.lab_readers.specs.Prelude.{arith, Err, None, refl, Result, subst, ℕ, ◌≡◌, PcmError, Invalid, Geometry, Capture, refusal_of, CaptureStream}
+use Rattle.lab_readers.specs.Prelude.{configured_with, new_reader, Setup, IsUsable}
 use Rattle.snd_base.specs.declared.errors.Why.TheVariants.{AvailMinZero, StartRange, StopRange}
-use Rattle.snd_base.specs.declared.geometry.Geometry.{Geometry}
 use Rattle.sw_limits.specs.declared.params.SwParams.{SwParams}
 use Rattle.sw_limits.specs.Boundary.{IsBoundary}
 use Rattle.sw_limits.specs.Params.{IsValid}
-use Rattle.pcm_states.specs.declared.calls.Call.TheVariants as call
-use Rattle.pcm_stream.specs.declared.direction.Direction.TheVariants.{Capture}
 use Rattle.pcm_stream.specs.Setup.{Checks}
-use Rattle.pcm_stream.specs.Status.{refusal_of}
-use Rattle.dsnoop_client.specs.declared.stream.CaptureStream.{CaptureStream}
-use Rattle.dsnoop_client.specs.Calls.{configured_with, new_reader}
-use Rattle.lab_run.specs.Stage.{Setup}
-use Rattle.lab_actors.specs.Usable.{IsUsable}
+use Rattle.pcm_states.specs.declared.calls.Call.TheVariants as call
 
 -- valid parameters have no defect
 Checks-valid : (params : SwParams) (boundary : ℕ) (e : PcmError) → IsValid params boundary → Checks (Err e) params boundary → ⊥

@@ -1,43 +1,21 @@
 -- A reader's lines, one after the other.
-use Rattle.std.proofs.Common.{◌≡◌, ℕ, ◌+◌, ◌*◌, ◌<◌, ◌≤◌, List, [], ◌∷◌, ◌++◌, refl, sym, ◌∙◌, ap, subst, arith, append_assoc, length, get_or, drop, suc, zero-mul}
-use Rattle.std.proofs.Math.Nat.{add-mul, mul-le-mul_right}
-use Rattle.std.proofs.Math.Seq.{drop-cons}
-use Rattle.std.proofs.lemmas.List.{append-nil, length-append, length-map, map-append}
-use Rattle.std.proofs.lemmas.List.Concat.{flat_map-append}
+use Rattle.lab_readers.specs.Prelude.{ap, append_assoc, arith, drop, get_or, length, List, refl, subst, suc, sym, vec_capacity, vec_len, zero-mul, ℕ, [], ◌*◌}
+use Rattle.lab_readers.specs.Prelude.{◌++◌, ◌+◌, ◌<◌, ◌∙◌, ◌∷◌, ◌≡◌, ◌≤◌, add-mul, mul-le-mul_right, drop-cons, append-nil, length-append, length-map}
+use Rattle.lab_readers.specs.Prelude.{map-append, flat_map-append, All-append, All-nil, All-weaker, Contains-append_left, Contains-append_right, sum_by-append}
+use Rattle.lab_readers.specs.Prelude.{sum_by-cons, All, Bool, Contains, false, if◌then◌else◌, Option, Some, sum_by, true, ℤ, ◌-◌, Geometry, Composes, Frame}
+use Rattle.lab_readers.specs.Prelude.{SnoopView, CaptureStream, most_read, bound_samples, through_all, Actor, Line, Op, Answer, Row, ops_by, frames_by, Reader}
+use Rattle.lab_readers.specs.Prelude.{reader_kind, row_by, IsAtSnoop, IsReaderLine, got_by, HasSpace, ReaderActor, frames_of_runs, AreSamples}
+use Rattle.lab_readers.specs.Prelude.{HasReaderAnswered, HasSameSetup, AppendsFrames, channels_of, HasGot, HasReaderDone, HasRowsFor, IsSameReader, reader_of}
+use Rattle.lab_readers.specs.Prelude.{ReaderLine, ReaderPart, TakesRow, Progress-joined, Progress-most, SeesAtMost, asked_by, frames_wanted, most_wanted}
+use Rattle.lab_readers.specs.Prelude.{spare_frames, wanted_by}
 use Rattle.std.proofs.lemmas.List.FromFn.{length-range_with_len}
-use Rattle.std.proofs.lemmas.List.Sums.{sum_by-append, sum_by-cons}
 use Rattle.std.proofs.lemmas.Nat.{le-div}
-use Rattle.std.proofs.lemmas.List.Elements.{All-append, All-nil, All-weaker, Contains-append_left, Contains-append_right}
-use Rattle.std.specs.Prelude.{◌-◌, All, Bool, true, false, Contains, ℤ, Option, Some, if◌then◌else◌, sum_by, vec_capacity, vec_len}
-use Rattle.snd_base.specs.declared.geometry.Geometry.{Geometry}
-use Rattle.snd_base.specs.Relations.{Composes}
-use Rattle.snoop_core.specs.declared.port.Frame.{Frame}
-use Rattle.snoop_core.specs.declared.port.SnoopPort as snoopport
-use Rattle.snoop_core.specs.Port.{SnoopView}
 use Rattle.pcm_stream.specs.declared.setup.Setup.{Setup}
-use Rattle.dsnoop_client.specs.declared.stream.CaptureStream.{CaptureStream}
-use Rattle.dsnoop_client.specs.FewerReads.{most_read}
-use Rattle.dsnoop_client.specs.Reads.{bound_samples, through_all}
-use Rattle.lab_lines.specs.declared.line.Actor.{Actor}
-use Rattle.lab_lines.specs.declared.line.Line.{Line}
-use Rattle.lab_lines.specs.declared.line.Op.{Op}
-use Rattle.lab_lines.specs.declared.line.Op.TheVariants as op
-use Rattle.lab_lines.specs.declared.row.Answer.{Answer}
-use Rattle.lab_lines.specs.declared.row.Row.{Row}
 use Rattle.lab_run.specs.ActorPart.{Doing, PartsGrow}
-use Rattle.lab_run.specs.Phases.{ops_by}
-use Rattle.lab_run.specs.Reader.{Reader, frames_by, reader_kind, row_by}
-use Rattle.lab_run.specs.ReaderAtPort.{IsAtSnoop, IsReaderLine}
-use Rattle.lab_run.specs.Stretches.{got_by}
-use Rattle.lab_readers.specs.declared.lines.ReaderActor.{ReaderActor}
-use Rattle.lab_readers.specs.FrameRuns.{frames_of_runs}
-use Rattle.lab_readers.specs.Lines.{AreSamples, HasReaderAnswered, HasSameSetup}
-use Rattle.lab_readers.specs.Progress.{Progress-joined, Progress-most, SeesAtMost}
-use Rattle.lab_readers.specs.Parts.{AppendsFrames, HasReaderDone, HasGot, HasRowsFor, IsSameReader, ReaderLine, ReaderPart, TakesRow, channels_of, reader_of}
-use Rattle.lab_actors.specs.Room.{HasSpace}
-use Rattle.lab_readers.specs.Room.{asked_by, frames_wanted, most_wanted, spare_frames, wanted_by}
-use Rattle.lab_readers.proofs.Called.{HasLoaded-joined, HasLoaded-none, frames_by-count, length-through}
 use Rattle.lab_readers.proofs.CallProgress.{Progress-same}
+use Rattle.lab_readers.proofs.Called.{HasLoaded-joined, HasLoaded-none, frames_by-count, length-through}
+use Rattle.snoop_core.specs.declared.port.SnoopPort as snoopport
+use Rattle.lab_lines.specs.declared.line.Op.TheVariants as op
 
 -- an actor is the same as itself, and after two lines
 pub IsSameActor-none : (a : ReaderActor) → IsSameReader a a

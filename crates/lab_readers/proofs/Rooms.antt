@@ -1,14 +1,7 @@
 -- The room that reads take, and the room that there is.
-use Rattle.std.proofs.Common.{ℕ, ◌≤◌, arith, length, zero-mul}
-use Rattle.std.proofs.Math.Nat.{div-mul-le_self, mul-le-mul_right}
-use Rattle.std.specs.Prelude.{◌-◌, ℤ, min, vec_capacity, vec_len}
-use Rattle.std.specs.Global.{Vec}
-use Rattle.dsnoop_client.specs.declared.stream.CaptureStream.{CaptureStream}
-use Rattle.dsnoop_client.specs.FewerReads.{most_read}
-use Rattle.lab_lines.specs.declared.line.Op.{Op}
+use Rattle.lab_readers.specs.Prelude.{arith, length, vec_capacity, vec_len, zero-mul, ℕ, ◌≤◌, div-mul-le_self, mul-le-mul_right, Vec, min, ℤ, ◌-◌}
+use Rattle.lab_readers.specs.Prelude.{CaptureStream, most_read, Op, HasSpace, fitting_op, samples_wanted, spare_frames}
 use Rattle.lab_lines.specs.declared.line.Op.TheVariants as op
-use Rattle.lab_actors.specs.Room.{HasSpace}
-use Rattle.lab_readers.specs.Room.{fitting_op, samples_wanted, spare_frames}
 
 -- there is room for what a line names of no more frames than there is room for
 pub fitting-fits : (r : CaptureStream) (samples : Vec ℤ) (asked : Op) → HasSpace (samples_wanted r (fitting_op (spare_frames r samples) asked)) samples

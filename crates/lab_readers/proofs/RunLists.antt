@@ -1,13 +1,8 @@
 -- Runs of frames that are apart, and frames that are appended to them.
-use Rattle.std.proofs.Common.{◌≡◌, ℕ, ◌+◌, ◌≤◌, List, [], ◌∷◌, ◌++◌, refl, sym, ◌∙◌, ap, subst, arith, zero, suc, append_assoc}
-use Rattle.std.proofs.lemmas.Bool.Decides.{nat_tests}
-use Rattle.std.proofs.lemmas.List.{append-nil}
-use Rattle.std.proofs.lemmas.List.Concat.{flat_map-append}
-use Rattle.std.specs.Prelude.{◌≢◌, Bool, true, false, nat_eq, if◌then◌else◌, ⊤}
-use Rattle.std.specs.List.{range_with_len}
+use Rattle.lab_readers.specs.Prelude.{ap, append_assoc, arith, List, refl, subst, suc, sym, zero, ℕ, [], ◌++◌, ◌+◌, ◌∙◌, ◌∷◌, ◌≡◌, ◌≢◌, ◌≤◌, nat_tests}
+use Rattle.lab_readers.specs.Prelude.{append-nil, flat_map-append, range_with_len, Bool, false, if◌then◌else◌, nat_eq, true, ⊤, joined_runs, runs_of, AreApart}
+use Rattle.lab_readers.specs.Prelude.{frames_of_runs}
 use Rattle.dmix_client.specs.ExpansionLaws.{range_with_len-append}
-use Rattle.lab_run.specs.LabRun.{joined_runs, runs_of}
-use Rattle.lab_readers.specs.FrameRuns.{AreApart, frames_of_runs}
 
 -- no run begins at the end of the one before
 IsBefore : ℕ → List (ℕ × ℕ) → Type 0

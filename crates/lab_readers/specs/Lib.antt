@@ -15,6 +15,7 @@ pub mod OpenReader
 pub mod Opening
 pub mod Parts
 pub mod Phase
+pub mod Prelude
 pub mod Progress
 pub mod Reaped
 pub mod Recorded

@@ -1,21 +1,17 @@
 -- The answers to a request, line by line.
-use Rattle.std.proofs.Common.{◌≡◌, ℕ, List, [], ◌∷◌, ◌++◌, ap, refl, sym, ◌∙◌, append_assoc, ◌<◌, ◌+◌, subst, take, get_or, length}
-use Rattle.std.proofs.lemmas.List.{append-nil, take_more}
-use Rattle.std.specs.Prelude.{Option, unwrap_or}
+use Rattle.lab_refine.specs.Prelude.{ap, append_assoc, get_or, length, List, refl, subst, sym, take, ℕ, [], ◌++◌, ◌+◌, ◌<◌, ◌∙◌, ◌∷◌, ◌≡◌, append-nil}
+use Rattle.lab_refine.specs.Prelude.{take_more, Option, unwrap_or, Ask, Request, Answers, AreAnswers, chosen_line, IsAnswer, IsAppended, IsNarrowing, left_line}
 use Rattle.hw_space.specs.declared.param.Param.{Param}
 use Rattle.hw_space.specs.declared.param.Param.TheVariants.{Access, Format}
-use Rattle.hw_space.specs.declared.param_box.ParamBox.{ParamBox}
 use Rattle.hw_space.specs.declared.param.ParamKind.{ParamKind}
-use Rattle.hw_space.specs.declared.param.ParamKind.TheVariants as kinds
+use Rattle.hw_space.specs.declared.param_box.ParamBox.{ParamBox}
 use Rattle.hw_space.specs.ChoiceLaws.{Leaves-unique, IsNear-unique, IsChoice-unique}
 use Rattle.hw_space.specs.Narrowings.{IsNearKind, with_value, with_min, with_max, with_integer}
 use Rattle.hw_space.specs.Params.{kind_of}
 use Rattle.hw_space.specs.SettledLaws.{IsGreatest-unique}
 use Rattle.hw_space.specs.Widest.{widest}
-use Rattle.lab_refine.specs.declared.request.Ask.{Ask}
+use Rattle.hw_space.specs.declared.param.ParamKind.TheVariants as kinds
 use Rattle.lab_refine.specs.declared.request.Ask.TheVariants as ask_kinds
-use Rattle.lab_refine.specs.declared.request.Request.{Request}
-use Rattle.lab_refine.specs.Answers.{AreAnswers, Answers, IsAnswer, IsAppended, IsNarrowing, left_line, chosen_line}
 
 -- one more line is answered
 pub Answers-more : (period : ℕ) (old between new : ParamBox) (asks : List Ask) (ask : Ask) (before after : List ℕ)

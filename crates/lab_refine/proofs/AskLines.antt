@@ -1,18 +1,10 @@
 -- What lines ask, read one after the other.
-use Rattle.std.proofs.Common.{◌≡◌, ℕ, List, [], ◌∷◌, ◌++◌, ap, refl, sym, ◌∙◌, append_assoc, subst, All}
-use Rattle.std.specs.Prelude.{Some, None, Result, Ok, Err, IfOk}
-use Rattle.std.proofs.lemmas.List.{append-nil}
+use Rattle.lab_refine.specs.Prelude.{All, ap, append_assoc, Err, List, refl, subst, sym, ℕ, [], ◌++◌, ◌∙◌, ◌∷◌, ◌≡◌, append-nil, All-append, All-cons, All-nil}
+use Rattle.lab_refine.specs.Prelude.{IfOk, None, Ok, Result, Some, first_and_rest, ScriptError, ScriptWhy, Ask, Request, ask_of, IsAsk, slave_of, asked_in}
+use Rattle.lab_refine.specs.Prelude.{asks_of, on_line, Reads, Refuses, ◌>>=◌}
 use Rattle.std.specs.Result.{IsErrAnd}
-use Rattle.lab_script.specs.declared.error.ScriptWhy.{ScriptWhy}
-use Rattle.lab_script.specs.declared.error.ScriptWhy.TheVariants as why
-use Rattle.text_words.specs.Lexing.{first_and_rest}
-use Rattle.lab_script.specs.declared.error.ScriptError.{ScriptError}
-use Rattle.lab_refine.specs.declared.request.Ask.{Ask}
-use Rattle.lab_refine.specs.declared.request.Request.{Request}
 use Rattle.lab_refine.specs.declared.request.SlaveLine.{SlaveLine}
-use Rattle.lab_refine.specs.Grammar.{ask_of, slave_of, IsAsk}
-use Rattle.std.proofs.lemmas.List.Elements.{All-append, All-cons, All-nil}
-use Rattle.lab_refine.specs.Reading.{asked_in, asks_of, on_line, Reads, Refuses, ◌>>=◌}
+use Rattle.lab_script.specs.declared.error.ScriptWhy.TheVariants as why
 
 -- asks that were read before others
 abbrev pub joined : List Ask → Result (List Ask) ScriptError → Result (List Ask) ScriptError

@@ -1,9 +1,8 @@
 -- The members of a mask, one after the other.
-use Rattle.std.proofs.Common.{◌≡◌, ℕ, zero, suc, ◌+◌, Bool, true, false, List, [], ◌∷◌, ◌++◌, filter, ap, refl, sym, ◌∙◌, append_assoc, arith, add-one, cond}
-use Rattle.std.specs.List.{range_with_len}
+use Rattle.lab_refine.specs.Prelude.{add-one, ap, append_assoc, arith, Bool, cond, false, filter, List, refl, suc, sym, true, zero, ℕ, [], ◌++◌, ◌+◌, ◌∙◌, ◌∷◌}
+use Rattle.lab_refine.specs.Prelude.{◌≡◌, append-nil, filter-append}
 use Rattle.std.specs.Fmt.{decimal}
-use Rattle.std.proofs.lemmas.List.{append-nil}
-use Rattle.std.proofs.lemmas.List.Elements.{filter-append}
+use Rattle.std.specs.List.{range_with_len}
 use Rattle.pcm_interval.specs.declared.mask.Mask.{Mask}
 use Rattle.lab_refine.specs.Values.{has_member, is_nil, mask_text, members_below, next_number, numbers_text}
 

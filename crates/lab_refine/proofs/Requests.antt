@@ -1,18 +1,14 @@
 -- Why what the text in a file asks can't be had: the file is missing, or the text is refused.
-use Rattle.std.proofs.Common.{◌≡◌, ◌⊎◌, ℕ, List, ap, sym, subst, inl, inr, ◌∙◌, refl}
-use Rattle.std.specs.Prelude.{Option, Result, Ok, Err}
+use Rattle.lab_refine.specs.Prelude.{ap, Err, inl, inr, List, refl, subst, sym, ℕ, ◌∙◌, ◌≡◌, ◌⊎◌, Ok, Option, Result, ScriptError, ScriptWhy, Cause}
+use Rattle.lab_refine.specs.Prelude.{first_bytes, Request, Refuses, request_of_text}
 use Rattle.std.specs.Option.{ForSome}
-use Rattle.lab_script.specs.declared.error.ScriptError.{ScriptError}
-use Rattle.lab_script.specs.declared.error.ScriptWhy.{ScriptWhy}
-use Rattle.lab_script.specs.declared.error.ScriptWhy.TheVariants as why
 use Rattle.lab_shelf.specs.Files.{Files}
 use Rattle.lab_stop.specs.declared.stop.Stop.{Stop}
-use Rattle.lab_stop.specs.declared.stop.Stop.TheVariants as stops
-use Rattle.lab_stop.specs.Causes.{Cause, first_bytes, ◌>>=◌}
+use Rattle.lab_stop.specs.Causes.{◌>>=◌}
 use Rattle.lab_stop.specs.Stops.{FetchFaults, IsCauseOf, IsScriptStop, Misses}
-use Rattle.lab_refine.specs.declared.request.Request.{Request}
 use Rattle.lab_refine.specs.Answered.{as_request, request_in}
-use Rattle.lab_refine.specs.Reading.{Refuses, request_of_text}
+use Rattle.lab_script.specs.declared.error.ScriptWhy.TheVariants as why
+use Rattle.lab_stop.specs.declared.stop.Stop.TheVariants as stops
 
 -- a stop at a text that is refused: for memory, or with the refusal
 abbrev IsRefused : ScriptError → Stop → Result Request ScriptError → Type 0

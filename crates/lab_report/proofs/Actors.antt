@@ -1,17 +1,11 @@
 -- Each request of a script is of an actor that it declares.
-use Rattle.std.proofs.Common.{◌≡◌, ℕ, ◌+◌, List, [], ◌∷◌, ◌++◌, length, map, zero, suc, refl, add-one, append_assoc}
-use Rattle.std.proofs.lemmas.List.{map-append}
-use Rattle.std.specs.List.{All, AllByRecursion}
-use Rattle.std.proofs.lemmas.List.Elements.{All-append, All-cons, All-nil, All-filter, All-map, recursion_from_All}
+use Rattle.lab_report.specs.Prelude.{add-one, append_assoc, length, List, map, refl, suc, zero, ℕ, [], ◌++◌, ◌+◌, ◌∷◌, ◌≡◌, map-append, All-append, All-cons}
+use Rattle.lab_report.specs.Prelude.{All-filter, All-map, All-nil, recursion_from_All, AllByRecursion, Line, Request, Script, IsActor, IsItem, IsScript}
+use Rattle.lab_report.specs.Prelude.{phases_of, before_place, in_order, item_requests, of_place, request_of, requests_from, requests_of}
+use Rattle.std.specs.List.{All}
 use Rattle.lab_lines.specs.declared.line.Item.{Item}
-use Rattle.lab_lines.specs.declared.line.Item.TheVariants as item
-use Rattle.lab_lines.specs.declared.line.Line.{Line}
-use Rattle.lab_lines.specs.declared.script.Script.{Script}
-use Rattle.lab_lines.specs.Limits.{IsActor, IsItem, IsScript}
-use Rattle.lab_lines.specs.Script.{phases_of}
-use Rattle.lab_lines.specs.declared.request.Request.{Request}
-use Rattle.lab_report.specs.Requests.{request_of, of_place, before_place, in_order, item_requests, requests_from, requests_of}
 use Rattle.lab_script.proofs.States.{border-actor}
+use Rattle.lab_lines.specs.declared.line.Item.TheVariants as item
 
 -- a request is of one of so many clients and readers, or of the card
 abbrev pub IsAsked : ℕ → ℕ → Request → Type 0

@@ -1,26 +1,14 @@
 -- The text of a report is read as the report.
-use Rattle.std.proofs.Common.{◌≡◌, ℕ, ◌≤◌, ◌<◌, true, false, List, [], ◌∷◌, ◌++◌, length, map, refl, ap, sym, ◌∙◌, arith, append_assoc, Some, None, Ok, codes}
-use Rattle.std.specs.List.{AllByRecursion, flat_map, slice_get}
-use Rattle.std.specs.Fmt.{decimal}
-use Rattle.std.proofs.lemmas.List.{append-nil, length-map}
-use Rattle.std.proofs.lemmas.List.Elements.{recursion_from_All}
-use Rattle.std.proofs.lemmas.Option.{slice_get_past}
-use Rattle.snd_base.specs.declared.places.Segment.{Segment}
-use Rattle.lab_lines.specs.declared.script.Script.{Script}
-use Rattle.lab_lines.specs.Limits.{IsScript}
-use Rattle.lab_lines.specs.declared.report.Report.{Report}
-use Rattle.lab_lines.specs.declared.request.Request.{Request}
-use Rattle.lab_lines.specs.declared.row.Row.{Row}
-use Rattle.lab_report.specs.Causes.{◌>>=◌}
-use Rattle.lab_report.specs.Reading.{State, nothing, tail_by, with_line, next_line, on_line, lines_after, report_in_text}
-use Rattle.lab_report.specs.Requests.{requests_of}
-use Rattle.lab_lines.specs.Rows.{request_of_row}
-use Rattle.lab_report.specs.Text.{client_name, reader_name, row_line, segment_line, run_line, played_line, report_text, IsRowOf, IsSegmentOf, IsRunOf, IsReportOf}
-use Rattle.lab_report.specs.Words.{lines_of, front_word}
+use Rattle.lab_report.specs.Prelude.{ap, append_assoc, arith, codes, false, length, List, map, None, Ok, refl, Some, sym, true, ℕ, [], ◌++◌, ◌<◌, ◌∙◌, ◌∷◌, ◌≡◌}
+use Rattle.lab_report.specs.Prelude.{◌≤◌, append-nil, length-map, recursion_from_All, slice_get_past, decimal, AllByRecursion, flat_map, slice_get, Segment}
+use Rattle.lab_report.specs.Prelude.{Report, Request, Row, Script, IsScript, request_of_row, ◌>>=◌, IsReportInRange, IsRowInRange, IsRunInRange}
+use Rattle.lab_report.specs.Prelude.{IsSegmentInRange, IsWide, lines_after, next_line, nothing, on_line, report_in_text, tail_by, with_line, requests_of}
+use Rattle.lab_report.specs.Prelude.{client_name, IsReportOf, IsRowOf, IsRunOf, IsSegmentOf, played_line, reader_name, report_text, row_line, run_line}
+use Rattle.lab_report.specs.Prelude.{segment_line, front_word, lines_of}
+use Rattle.lab_report.specs.Reading.{State}
 use Rattle.lab_report.proofs.Printed.{IsLineText, lines_of-line, lines_of-lines, front_word-printed}
-use Rattle.lab_report.specs.Ranges.{IsWide, IsRowInRange, IsSegmentInRange, IsRunInRange, IsReportInRange}
-use Rattle.lab_report.proofs.PrintedRows.{row_of_line-printed}
 use Rattle.lab_report.proofs.PrintedReport.{segment_at-printed, run_at-printed, played_run-printed}
+use Rattle.lab_report.proofs.PrintedRows.{row_of_line-printed}
 use Rattle.lab_report.proofs.PrintedWhole.{front_in_line, row_is_line, segment_is_line, run_is_line, played_is_line}
 
 -- a report that is read as far as these rows, segments and runs

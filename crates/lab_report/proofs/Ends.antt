@@ -1,15 +1,7 @@
 -- A line whose end is read by a function of its own is read as word by word.
-use Rattle.std.proofs.Common.{◌≡◌, ℕ, List, refl, Result, Ok, Err}
-use Rattle.std.specs.List.{slice_split}
-use Rattle.lab_lines.specs.declared.script.Script.{Script}
-use Rattle.lab_report.specs.declared.error.ReportWhy.{ReportWhy}
-use Rattle.lab_lines.specs.declared.request.Request.{Request}
-use Rattle.lab_report.specs.Answers.{answer_at, state_at}
-use Rattle.lab_report.specs.Causes.{◌>>=◌}
-use Rattle.lab_report.specs.Reading.{row_of_line, row_after_front, row_end, client_and_rest, reader_and_rest, segment_at, segment_end, run_at, played_run}
-use Rattle.lab_report.specs.Text.{front_text}
-use Rattle.lab_report.specs.Words.{space_of, feed_of, next_number, most_frames, number_or_dash_at, expect_words}
-use Rattle.text_words.specs.Word.{is_space}
+use Rattle.lab_report.specs.Prelude.{Err, List, Ok, refl, Result, ℕ, ◌≡◌, slice_split, is_space, Request, Script, ReportWhy, answer_at, state_at, ◌>>=◌}
+use Rattle.lab_report.specs.Prelude.{client_and_rest, played_run, reader_and_rest, row_after_front, row_end, row_of_line, run_at, segment_at, segment_end}
+use Rattle.lab_report.specs.Prelude.{front_text, expect_words, feed_of, most_frames, next_number, number_or_dash_at, space_of}
 
 -- after a value, what follows may be said in another way
 same_after : {A B : Type 0} (r : Result A ReportWhy) (f g : A → Result B ReportWhy) → ((x : A) → f x ≡ g x) → (r >>= f) ≡ (r >>= g)

@@ -1,12 +1,8 @@
 -- The first line of a text.
-use Rattle.std.proofs.Common.{◌≡◌, ℕ, ◌+◌, ◌-◌, ◌<◌, ◌≤◌, Bool, true, false, List, [], ◌∷◌, length, take, drop, refl, ap, sym, ◌∙◌, arith, Some, None, suc, one-add, add-one, ◌==◌}
-use Rattle.std.specs.List.{position, position_or_len}
-use Rattle.std.proofs.lemmas.Bool.Decides.{nat_tests}
-use Rattle.std.proofs.lemmas.List.{drop_all}
+use Rattle.lab_report.specs.Prelude.{add-one, ap, arith, Bool, drop, false, length, List, None, one-add, refl, Some, suc, sym, take, true, ℕ, [], ◌+◌, ◌-◌, ◌<◌}
+use Rattle.lab_report.specs.Prelude.{◌==◌, ◌∙◌, ◌∷◌, ◌≡◌, ◌≤◌, nat_tests, drop_all, position, position_or_len, is_feed, position_end, position_place, take-drop}
+use Rattle.lab_report.specs.Prelude.{lines_of, onto_first}
 use Rattle.text_words.specs.Lexing.{first_and_rest}
-use Rattle.text_words.proofs.Cuts.{position_end, position_place, take-drop}
-use Rattle.lab_report.specs.Words.{onto_first, lines_of}
-use Rattle.text_words.specs.Word.{is_feed}
 
 -- the first line ends with the first line feed
 first_by : (b : ℕ) (bs : List ℕ) (t : Bool) → is_feed b ≡ t

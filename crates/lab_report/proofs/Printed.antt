@@ -1,21 +1,15 @@
 -- What is printed is read back: words, numbers, and the lines of a text.
-use Rattle.std.proofs.Common.{◌≡◌, ℕ, ◌^◌, ◌≤◌, ◌<◌, Bool, true, false, not, List, [], ◌∷◌, ◌++◌, length, map, take, drop, refl, ap, sym, subst, ◌∙◌, arith, one-add, append_assoc, Some, None, Ok, codes, bytes_eq}
-use Rattle.std.proofs.lemmas.Bool.{and_from, and_parts, not-true}
-use Rattle.std.specs.List.{AllByRecursion, flat_map, list_all, slice_split, onto_first as piece_first, position_or_len, join_with_byte}
-use Rattle.std.specs.Char.{is_ascii_digit}
-use Rattle.std.specs.Fmt.{decimal}
-use Rattle.std.specs.Str.{all_ascii_digits}
+use Rattle.lab_report.specs.Prelude.{ap, append_assoc, arith, Bool, bytes_eq, codes, drop, false, length, List, map, None, not, Ok, one-add, refl, Some, subst}
+use Rattle.lab_report.specs.Prelude.{sym, take, true, ℕ, [], ◌++◌, ◌<◌, ◌^◌, ◌∙◌, ◌∷◌, ◌≡◌, ◌≤◌, and_from, and_parts, not-true, nat_tests, digits_decimal}
+use Rattle.lab_report.specs.Prelude.{join_with_byte-slice_split, length-slice_split, slice_split-cons_no, slice_split-cons_yes, bytes_eq-Decides, decimal}
+use Rattle.lab_report.specs.Prelude.{AllByRecursion, flat_map, join_with_byte, list_all, position_or_len, slice_split, is_feed, is_space, decimal_of-decimal}
+use Rattle.lab_report.specs.Prelude.{all_digits, own, some_or, ◌>>=◌, dash_or_number, expect_word, expect_words, front_word, is_end, lines_of, most_frames}
+use Rattle.lab_report.specs.Prelude.{next_number, number_at, number_or_dash_at}
 use Rattle.std.proofs.Math.Seq.{take-append_seam}
-use Rattle.std.proofs.lemmas.Bool.Decides.{nat_tests}
-use Rattle.std.proofs.lemmas.Fmt.{digits_decimal}
-use Rattle.std.proofs.lemmas.List.Splits.{length-slice_split, slice_split-cons_yes, slice_split-cons_no, join_with_byte-slice_split}
-use Rattle.std.proofs.lemmas.Slice.Eq.{bytes_eq-Decides}
+use Rattle.std.specs.Char.{is_ascii_digit}
+use Rattle.std.specs.List.{onto_first as piece_first}
+use Rattle.std.specs.Str.{all_ascii_digits}
 use Rattle.lab_report.specs.declared.error.ReportWhy.TheVariants as why
-use Rattle.lab_report.specs.Causes.{◌>>=◌, some_or}
-use Rattle.lab_report.specs.Words.{is_end, lines_of, front_word, number_at, most_frames, next_number, dash_or_number, number_or_dash_at, expect_word, expect_words}
-use Rattle.text_words.specs.Word.{is_feed, is_space}
-use Rattle.text_words.proofs.Digits.{all_digits, own}
-use Rattle.text_words.proofs.Decimals.{decimal_of-decimal}
 
 -- a byte within a word
 abbrev pub in_word : ℕ → Bool

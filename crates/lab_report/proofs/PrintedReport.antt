@@ -1,27 +1,14 @@
 -- A report that is printed is read back.
-use Rattle.std.proofs.Common.{◌≡◌, ◌≢◌, ℕ, ◌≤◌, ◌<◌, Bool, true, false, cond, List, [], ◌∷◌, ◌++◌, length, get_or, refl, ap, sym, subst, ◌∙◌, arith, zero, suc, Some, None, Ok, bytes_eq, nat_lt}
-use Rattle.std.proofs.lemmas.Bool.{and_parts, and_from}
-use Rattle.std.specs.List.{list_all, slice_get, position, position_or_len}
-use Rattle.std.specs.Fmt.{decimal}
-use Rattle.std.specs.Option.{option_map_or}
-use Rattle.std.proofs.lemmas.Bool.Decides.{nat_tests}
+use Rattle.lab_report.specs.Prelude.{ap, arith, Bool, bytes_eq, cond, false, get_or, length, List, nat_lt, None, Ok, refl, Some, subst, suc, sym, true, zero, ℕ}
+use Rattle.lab_report.specs.Prelude.{[], ◌++◌, ◌<◌, ◌∙◌, ◌∷◌, ◌≡◌, ◌≢◌, ◌≤◌, and_from, and_parts, nat_tests, get_or_from_slice_get, bytes_eq-Decides, decimal}
+use Rattle.lab_report.specs.Prelude.{list_all, position, position_or_len, slice_get, option_map_or, Segment, ClientLine, ReaderLine, Script, IsScript, some_or}
+use Rattle.lab_report.specs.Prelude.{◌>>=◌, IsSegmentInRange, IsWide, client_and_rest, played_run, reader_and_rest, run_at, segment_at, client_name}
+use Rattle.lab_report.specs.Prelude.{reader_name, most_frames}
 use Rattle.std.proofs.lemmas.List.Sums.{position_or_len_is}
-use Rattle.std.proofs.lemmas.Option.{get_or_from_slice_get}
-use Rattle.std.proofs.lemmas.Slice.Eq.{bytes_eq-Decides}
-use Rattle.snd_base.specs.declared.places.Segment.{Segment}
-use Rattle.lab_lines.specs.declared.script.ClientLine.{ClientLine}
-use Rattle.lab_lines.specs.declared.script.ReaderLine.{ReaderLine}
-use Rattle.lab_lines.specs.declared.script.Script.{Script}
-use Rattle.lab_script.specs.Draft.{is_client, is_reader}
-use Rattle.lab_lines.specs.Limits.{IsScript}
 use Rattle.lab_lines.specs.Names.{is_name, is_name_byte}
-use Rattle.lab_report.specs.declared.error.ReportWhy.TheVariants as why
-use Rattle.lab_report.specs.Causes.{◌>>=◌, some_or}
-use Rattle.lab_report.specs.Reading.{client_and_rest, reader_and_rest, segment_at, run_at, played_run}
-use Rattle.lab_report.specs.Text.{client_name, reader_name}
-use Rattle.lab_report.specs.Words.{most_frames}
+use Rattle.lab_script.specs.Draft.{is_client, is_reader}
 use Rattle.lab_report.proofs.Printed.{in_word, front_word-printed, next_number-printed}
-use Rattle.lab_report.specs.Ranges.{IsWide, IsSegmentInRange}
+use Rattle.lab_report.specs.declared.error.ReportWhy.TheVariants as why
 
 name_byte_in_word : (b : ℕ) → is_name_byte b ≡ true → in_word b ≡ true
 name_byte_in_word b e = grind (arith, nat_tests)

@@ -1,30 +1,14 @@
 -- The rows of a report that is printed are read back.
-use Rattle.std.proofs.Common.{◌≡◌, ℕ, ◌^◌, ◌≤◌, ◌<◌, true, List, [], ◌∷◌, ◌++◌, refl, ap, ◌∙◌, arith, append_assoc, Option, Some, None, Ok, codes}
-use Rattle.std.specs.List.{list_all}
-use Rattle.std.specs.Fmt.{decimal}
-use Rattle.std.proofs.lemmas.Fmt.{digits_decimal}
-use Rattle.snd_base.specs.declared.errors.PcmError.TheVariants.{BadState, Xrun, Again, NoDevice, Invalid, Busy, NotSupported, LapEnd, Stopped, Memory}
-use Rattle.snd_base.specs.declared.errors.XrunWhy.{XrunWhy}
-use Rattle.snd_base.specs.declared.errors.XrunWhy.TheVariants.{Empty, Already, Avail, Late, Overtaken}
-use Rattle.pcm_states.specs.declared.states.State.{State as PcmState}
-use Rattle.pcm_states.specs.declared.states.State.TheVariants as state
-use Rattle.pcm_states.specs.States.{state_name}
-use Rattle.lab_lines.specs.declared.script.Script.{Script}
-use Rattle.text_words.specs.Table.{row_of}
-use Rattle.lab_report.specs.declared.error.ReportWhy.TheVariants as why
-use Rattle.lab_lines.specs.declared.row.Answer.{Answer}
-use Rattle.lab_lines.specs.declared.row.Answer.TheVariants.{Done, Count, Failed}
-use Rattle.lab_lines.specs.declared.row.Row.{Row}
-use Rattle.lab_report.specs.Answers.{plain_answers, states, frame_and_channel, xrun_by, xrun_of, busy_of, answer_by, answer_at, state_at}
-use Rattle.lab_report.specs.Causes.{◌>>=◌, some_or}
-use Rattle.lab_report.specs.Ranges.{IsWide, IsWideWhere, IsXrunInRange, IsAnswerInRange, IsRowInRange}
-use Rattle.lab_report.specs.Reading.{row_of_line}
-use Rattle.lab_lines.specs.Rows.{request_of_row}
-use Rattle.lab_report.specs.Text.{number_or_dash, xrun_text, answer_text, front_text, row_line, HasText, HasXrunText, HasStateText}
-use Rattle.lab_report.specs.Words.{is_end, most_frames, number_or_dash_at}
+use Rattle.lab_report.specs.Prelude.{ap, append_assoc, arith, codes, List, None, Ok, Option, refl, Some, true, ℕ, [], ◌++◌, ◌<◌, ◌^◌, ◌∙◌, ◌∷◌, ◌≡◌, ◌≤◌}
+use Rattle.lab_report.specs.Prelude.{digits_decimal, decimal, list_all, Again, BadState, Busy, Invalid, LapEnd, Memory, NoDevice, NotSupported, Stopped, Xrun}
+use Rattle.lab_report.specs.Prelude.{XrunWhy, Already, Avail, Empty, Late, Overtaken, State as PcmState, state_name, row_of, decimal_of-decimal, own, Answer}
+use Rattle.lab_report.specs.Prelude.{Count, Done, Failed, Row, Script, request_of_row, answer_at, answer_by, busy_of, frame_and_channel, plain_answers}
+use Rattle.lab_report.specs.Prelude.{state_at, states, xrun_by, xrun_of, some_or, ◌>>=◌, IsAnswerInRange, IsRowInRange, IsWide, IsWideWhere, IsXrunInRange}
+use Rattle.lab_report.specs.Prelude.{row_of_line, answer_text, front_text, HasStateText, HasText, HasXrunText, number_or_dash, row_line, xrun_text, is_end}
+use Rattle.lab_report.specs.Prelude.{most_frames, number_or_dash_at}
 use Rattle.lab_report.proofs.Printed.{in_word, in_line, front_word-printed, decimal_in_word, next_number-printed, not_digits, dash-printed, number-printed, expect_words-printed}
-use Rattle.text_words.proofs.Digits.{own}
-use Rattle.text_words.proofs.Decimals.{decimal_of-decimal}
+use Rattle.pcm_states.specs.declared.states.State.TheVariants as state
+use Rattle.lab_report.specs.declared.error.ReportWhy.TheVariants as why
 
 wide : (n : ℕ) → IsWide n → n ≤ most_frames
 wide n h = omega arith

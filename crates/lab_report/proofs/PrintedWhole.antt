@@ -1,31 +1,18 @@
 -- A report that is printed is read back, line by line.
-use Rattle.std.proofs.Common.{◌≡◌, ℕ, ◌≤◌, ◌<◌, true, List, [], ◌∷◌, ◌++◌, length, refl, ◌∙◌, arith, Option, Some, None, codes}
-use Rattle.std.proofs.lemmas.Bool.{and_parts, and_from}
-use Rattle.std.specs.List.{list_all}
-use Rattle.std.specs.Fmt.{decimal}
+use Rattle.lab_report.specs.Prelude.{arith, codes, length, List, None, Option, refl, Some, true, ℕ, [], ◌++◌, ◌<◌, ◌∙◌, ◌∷◌, ◌≡◌, ◌≤◌, and_from, and_parts}
+use Rattle.lab_report.specs.Prelude.{decimal, list_all, Busy, Xrun, XrunWhy, Already, Avail, Empty, Late, Overtaken, Segment, State as PcmState, state_name}
+use Rattle.lab_report.specs.Prelude.{Answer, Count, Failed, Row, Script, IsActor, IsScript, request_of_row, IsAnswerInRange, IsOpInRange, IsRowInRange}
+use Rattle.lab_report.specs.Prelude.{IsSegmentInRange, IsWide, IsWideWhere, IsXrunInRange, actor_name, answer_text, client_name, front_text, IsRowOf}
+use Rattle.lab_report.specs.Prelude.{number_or_dash, played_line, reader_name, row_line, run_line, segment_line, xrun_text}
 use Rattle.std.proofs.lemmas.List.Folds.{list_all-append}
-use Rattle.snd_base.specs.declared.places.Segment.{Segment}
 use Rattle.lab_lines.specs.declared.line.Actor.{Actor}
 use Rattle.lab_lines.specs.declared.line.Actor.TheVariants.{Card, Client, Reader}
 use Rattle.lab_lines.specs.declared.line.Op.{Op}
-use Rattle.lab_lines.specs.declared.line.Op.TheVariants as op
-use Rattle.lab_lines.specs.declared.script.Script.{Script}
-use Rattle.lab_lines.specs.Limits.{IsActor, IsScript}
 use Rattle.lab_script.specs.Ops.{op_text}
-use Rattle.pcm_states.specs.declared.states.State.{State as PcmState}
-use Rattle.pcm_states.specs.declared.states.State.TheVariants as state
-use Rattle.pcm_states.specs.States.{state_name}
-use Rattle.snd_base.specs.declared.errors.PcmError.TheVariants.{Xrun, Busy}
-use Rattle.snd_base.specs.declared.errors.XrunWhy.{XrunWhy}
-use Rattle.snd_base.specs.declared.errors.XrunWhy.TheVariants.{Empty, Already, Avail, Late, Overtaken}
-use Rattle.lab_lines.specs.declared.row.Answer.{Answer}
-use Rattle.lab_lines.specs.declared.row.Answer.TheVariants.{Count, Failed}
-use Rattle.lab_lines.specs.declared.row.Row.{Row}
-use Rattle.lab_lines.specs.Rows.{request_of_row}
-use Rattle.lab_report.specs.Text.{client_name, reader_name, actor_name, number_or_dash, xrun_text, answer_text, front_text, row_line, segment_line, run_line, played_line, IsRowOf}
 use Rattle.lab_report.proofs.Printed.{in_word, in_line, decimal_in_word, IsLineText}
-use Rattle.lab_report.specs.Ranges.{IsWide, IsWideWhere, IsXrunInRange, IsAnswerInRange, IsOpInRange, IsRowInRange, IsSegmentInRange}
 use Rattle.lab_report.proofs.PrintedReport.{client-found, reader-found}
+use Rattle.lab_lines.specs.declared.line.Op.TheVariants as op
+use Rattle.pcm_states.specs.declared.states.State.TheVariants as state
 
 byte_in_line : (b : ℕ) → in_word b ≡ true → in_line b ≡ true
 byte_in_line b e = grind arith

@@ -1,13 +1,7 @@
 -- The line of a row, part by part.
-use Rattle.std.proofs.Common.{◌≡◌, refl, ℕ, List, [], ◌∷◌, ◌++◌, append_assoc}
+use Rattle.lab_report.specs.Prelude.{append_assoc, List, refl, ℕ, [], ◌++◌, ◌∷◌, ◌≡◌, BadState, state_name, Request, Row, Script, request_of_row, answer_text}
+use Rattle.lab_report.specs.Prelude.{error_front, error_rest, error_text, front_text, number_or_dash, row_line}
 use Rattle.snd_base.specs.declared.errors.PcmError.{PcmError}
-use Rattle.snd_base.specs.declared.errors.PcmError.TheVariants.{BadState}
-use Rattle.pcm_states.specs.States.{state_name}
-use Rattle.lab_lines.specs.declared.script.Script.{Script}
-use Rattle.lab_lines.specs.declared.request.Request.{Request}
-use Rattle.lab_lines.specs.declared.row.Row.{Row}
-use Rattle.lab_lines.specs.Rows.{request_of_row}
-use Rattle.lab_report.specs.Text.{error_front, error_rest, error_text, front_text, answer_text, number_or_dash, row_line}
 
 -- a refusal's text is its front and what is said after that
 pub error_text_parts : (error : PcmError) → error_text error ≡ error_front error ++ error_rest error

@@ -1,11 +1,7 @@
 -- The requests of a phase, sorted by the places of their actors.
-use Rattle.std.proofs.Common.{◌≡◌, ◌≢◌, ℕ, ◌+◌, ◌<◌, ◌≤◌, ◌==◌, List, [], ◌∷◌, ◌++◌, length, map, take, get_or, slice_index_or, slice_set, zero, suc, inl, inr, refl, sym, ap, ◌∙◌, arith}
-use Rattle.std.proofs.lemmas.Bool.{cases_eq, eq-eqb, ne_eqb}
-use Rattle.std.proofs.lemmas.List.{append-nil, get_or_default, get_or-set_other, get_or-set_same, map-append}
-use Rattle.std.proofs.lemmas.List.Elements.{filter_more}
-use Rattle.lab_lines.specs.declared.line.Line.{Line}
-use Rattle.lab_lines.specs.declared.request.Request.{Request}
-use Rattle.lab_report.specs.Requests.{place_of_actor, request_of, of_place, AddsRequest, AreSorted}
+use Rattle.lab_report.specs.Prelude.{ap, arith, get_or, inl, inr, length, List, map, refl, slice_index_or, slice_set, suc, sym, take, zero, ℕ, [], ◌++◌, ◌+◌}
+use Rattle.lab_report.specs.Prelude.{◌<◌, ◌==◌, ◌∙◌, ◌∷◌, ◌≡◌, ◌≢◌, ◌≤◌, cases_eq, eq-eqb, ne_eqb, append-nil, get_or-set_other, get_or-set_same}
+use Rattle.lab_report.specs.Prelude.{get_or_default, map-append, filter_more, Line, Request, AddsRequest, AreSorted, of_place, place_of_actor, request_of}
 
 -- a place more that has no requests
 pub none-push : (places : List (List Request)) → ((k : ℕ) → slice_index_or places k [] ≡ []) → (k : ℕ) → slice_index_or (places ++ [] ∷ []) k [] ≡ []

@@ -1,28 +1,13 @@
 -- What is read is spelled so: each word, number, answer and state of a report has a text, and only one.
-use Rattle.std.proofs.Common.{◌≡◌, ℕ, ◌^◌, ◌<◌, Bool, true, false, cond, List, [], ◌∷◌, ◌++◌, length, take, drop, refl, ap, sym, ◌∙◌, arith, append_assoc, Option, Some, None, option_map, Result, Ok, Err, codes, bytes_eq, subst}
-use Rattle.std.specs.List.{slice_split, position_or_len, join_with_byte}
-use Rattle.std.specs.Fmt.{decimal}
-use Rattle.std.proofs.lemmas.Bool.Decides.{nat_tests}
-use Rattle.std.proofs.lemmas.List.{take-append-drop}
-use Rattle.std.proofs.lemmas.List.Splits.{length-slice_split, join_with_byte-slice_split}
-use Rattle.std.proofs.lemmas.Slice.Eq.{bytes_eq-Decides}
-use Rattle.snd_base.specs.declared.errors.PcmError.TheVariants.{Xrun, Busy}
-use Rattle.snd_base.specs.declared.errors.XrunWhy.{XrunWhy}
-use Rattle.snd_base.specs.declared.errors.XrunWhy.TheVariants.{Empty, Already, Avail, Late, Overtaken}
-use Rattle.pcm_states.specs.declared.states.State.{State as PcmState}
-use Rattle.pcm_states.specs.States.{state_name}
-use Rattle.text_words.specs.Table.{row_of}
-use Rattle.lab_report.specs.declared.error.ReportWhy.{ReportWhy}
+use Rattle.lab_report.specs.Prelude.{ap, append_assoc, arith, Bool, bytes_eq, codes, cond, drop, Err, false, length, List, None, Ok, Option, option_map, refl}
+use Rattle.lab_report.specs.Prelude.{Result, Some, subst, sym, take, true, ℕ, [], ◌++◌, ◌<◌, ◌^◌, ◌∙◌, ◌∷◌, ◌≡◌, nat_tests, take-append-drop}
+use Rattle.lab_report.specs.Prelude.{join_with_byte-slice_split, length-slice_split, bytes_eq-Decides, decimal, join_with_byte, position_or_len, slice_split}
+use Rattle.lab_report.specs.Prelude.{Busy, Xrun, XrunWhy, Already, Avail, Empty, Late, Overtaken, State as PcmState, state_name, row_of, decimal_of, is_feed}
+use Rattle.lab_report.specs.Prelude.{is_space, decimal_of-is, Answer, Count, Failed, ok_to, ReportWhy, answer_at, answer_by, busy_of, count_and_rest}
+use Rattle.lab_report.specs.Prelude.{frame_and_channel, longer_answer, plain_answers, state_at, states, xrun_by, xrun_of, some_or, ◌>>=◌, answer_text}
+use Rattle.lab_report.specs.Prelude.{HasStateText, HasText, HasXrunText, number_or_dash, xrun_text, dash_or_number, expect_word, expect_words, feed_of}
+use Rattle.lab_report.specs.Prelude.{front_word, is_end, most_frames, next_number, not_word, number_at, number_or_dash_at, space_of}
 use Rattle.lab_report.specs.declared.error.ReportWhy.TheVariants as why
-use Rattle.lab_lines.specs.declared.row.Answer.{Answer}
-use Rattle.lab_lines.specs.declared.row.Answer.TheVariants.{Count, Failed}
-use Rattle.lab_report.specs.Answers.{plain_answers, states, frame_and_channel, xrun_by, xrun_of, busy_of, count_and_rest, longer_answer, answer_by, answer_at, state_at}
-use Rattle.lab_report.specs.Causes.{◌>>=◌, some_or}
-use Rattle.lab_report.specs.Text.{HasStateText, HasText, HasXrunText, number_or_dash, xrun_text, answer_text}
-use Rattle.lab_report.specs.Words.{is_end, front_word, space_of, feed_of, number_at, most_frames, next_number, dash_or_number, number_or_dash_at, not_word, expect_word, expect_words}
-use Rattle.text_words.specs.Word.{decimal_of, is_space, is_feed}
-use Rattle.lab_script.proofs.Ranges.{ok_to}
-use Rattle.text_words.proofs.Decimals.{decimal_of-is}
 
 -- what a value after a step says
 pub bind_ok : {A B : Type 0} (r : Result A ReportWhy) (f : A → Result B ReportWhy) (y : B) → (r >>= f) ≡ Ok y → (x : A) × (r ≡ Ok x) × (f x ≡ Ok y)

@@ -1,40 +1,24 @@
 -- A text that is read as a report is the text of a report of the script: each line is spelled as what was read of it.
-use Rattle.std.proofs.Common.{◌≡◌, ℕ, ◌≤◌, ◌<◌, ◌==◌, ◌&&◌, Bool, true, false, cond, if◌then◌else◌, List, [], ◌∷◌, ◌++◌, length, get_or, refl, ap, sym, subst, ◌∙◌, arith, append_assoc, Option, Some, None, Result, Ok, Err, codes, bytes_eq, inl, inr, map, take, length-append, ◌+◌, nat_lt}
-use Rattle.std.specs.List.{All, flat_map, slice_get, slice_split, position}
-use Rattle.std.specs.Fmt.{decimal}
-use Rattle.std.specs.Option.{option_map_or}
-use Rattle.std.specs.Result.{IfOk}
-use Rattle.std.proofs.lemmas.Bool.Decides.{nat_tests}
+use Rattle.lab_report.specs.Prelude.{ap, append_assoc, arith, Bool, bytes_eq, codes, cond, Err, false, get_or, if◌then◌else◌, inl, inr, length, length-append}
+use Rattle.lab_report.specs.Prelude.{List, map, nat_lt, None, Ok, Option, refl, Result, Some, subst, sym, take, true, ℕ, [], ◌&&◌, ◌++◌, ◌+◌, ◌<◌, ◌==◌, ◌∙◌}
+use Rattle.lab_report.specs.Prelude.{◌∷◌, ◌≡◌, ◌≤◌, cases_lt, nat_tests, append-nil, map-append, take_all, take_more, All-nil, All-push, get_or_from_slice_get}
+use Rattle.lab_report.specs.Prelude.{slice_get-get_or, slice_get_within, bytes_eq-Decides, decimal, flat_map, position, slice_get, slice_split, option_map_or}
+use Rattle.lab_report.specs.Prelude.{Segment, state_name, is_feed, is_space, Report, Request, Row, ClientLine, ReaderLine, Script, IsScript, request_of_row}
+use Rattle.lab_report.specs.Prelude.{ok_to, ReportWhy, answer_at, state_at, some_or, ◌>>=◌, after_head, Answers, below_rows, client_and_rest, head_at}
+use Rattle.lab_report.specs.Prelude.{lines_after, next_line, nothing, on_line, played_run, reader_and_rest, report_at, report_in_text, row_of_line, run_at}
+use Rattle.lab_report.specs.Prelude.{segment_at, tail_by, version_of, with_line, with_played, with_run, with_segment, requests_of, answer_text, client_name}
+use Rattle.lab_report.specs.Prelude.{front_text, HasStateText, HasText, IsReportOf, IsRowOf, IsRunOf, IsSegmentOf, number_or_dash, played_line, reader_name}
+use Rattle.lab_report.specs.Prelude.{report_text, row_line, run_line, segment_line, expect_word, expect_words, feed_of, front_word, lines_of, most_frames}
+use Rattle.lab_report.specs.Prelude.{next_number, number_or_dash_at, onto_first, space_of}
 use Rattle.std.proofs.lemmas.Grind.{flat_map-append}
-use Rattle.std.proofs.lemmas.Bool.{cases_lt}
-use Rattle.std.proofs.lemmas.List.{append-nil, map-append, take_all, take_more}
-use Rattle.std.proofs.lemmas.List.Elements.{All-nil, All-push}
 use Rattle.std.proofs.lemmas.List.Quantifiers.{position-Some}
-use Rattle.std.proofs.lemmas.Option.{get_or_from_slice_get, slice_get_within, slice_get-get_or}
-use Rattle.std.proofs.lemmas.Slice.Eq.{bytes_eq-Decides}
-use Rattle.snd_base.specs.declared.places.Segment.{Segment}
-use Rattle.pcm_states.specs.States.{state_name}
-use Rattle.lab_lines.specs.declared.script.ClientLine.{ClientLine}
-use Rattle.lab_lines.specs.declared.script.ReaderLine.{ReaderLine}
-use Rattle.lab_lines.specs.declared.script.Script.{Script}
+use Rattle.std.specs.List.{All}
+use Rattle.std.specs.Result.{IfOk}
 use Rattle.lab_report.specs.declared.error.ReportError.{ReportError}
-use Rattle.lab_report.specs.declared.error.ReportWhy.{ReportWhy}
-use Rattle.lab_report.specs.declared.error.ReportWhy.TheVariants as why
-use Rattle.lab_lines.specs.declared.report.Report.{Report}
-use Rattle.lab_lines.specs.declared.request.Request.{Request}
-use Rattle.lab_lines.specs.declared.row.Row.{Row}
-use Rattle.lab_report.specs.Answers.{answer_at, state_at}
-use Rattle.lab_report.specs.Causes.{◌>>=◌, some_or}
-use Rattle.lab_report.specs.Reading.{on_line, State, nothing, row_of_line, client_and_rest, reader_and_rest, segment_at, run_at, played_run, with_segment, with_run, with_played, tail_by, below_rows, after_head, head_at, version_of, with_line, next_line, report_at, lines_after, report_in_text, Answers}
-use Rattle.lab_report.specs.Requests.{requests_of}
-use Rattle.lab_report.specs.Text.{HasText, HasStateText, IsRowOf, IsSegmentOf, IsRunOf, IsReportOf, client_name, reader_name, number_or_dash, answer_text, front_text, row_line, segment_line, run_line, played_line, report_text}
-use Rattle.lab_lines.specs.Limits.{IsScript}
-use Rattle.lab_lines.specs.Rows.{request_of_row}
-use Rattle.lab_report.specs.Words.{lines_of, onto_first, front_word, space_of, feed_of, next_number, most_frames, number_or_dash_at, expect_word, expect_words}
-use Rattle.text_words.specs.Word.{is_feed, is_space}
-use Rattle.lab_script.proofs.Ranges.{ok_to}
+use Rattle.lab_report.specs.Reading.{State}
 use Rattle.lab_report.proofs.Actors.{IsAsked, requests_of-asked}
 use Rattle.lab_report.proofs.Spelled.{bind_ok, some_is, small_frames, small_byte, front_word-is, space_of-is, feed_of-is, next_number-is, number_or_dash_at-is, word_choice, expect_word-is, expect_words-is, answer_at-is, state_at-is}
+use Rattle.lab_report.specs.declared.error.ReportWhy.TheVariants as why
 
 past_by : (requests : List Request) (n : ℕ) (b : Bool) → nat_lt n (length requests) ≡ b → slice_get requests n ≡ None → length requests ≤ n
 past_by [] n b t e = omega arith

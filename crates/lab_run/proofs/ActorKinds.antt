@@ -1,25 +1,14 @@
 -- Clients and readers are kinds of actors whose lines load a position before they place or get anything, and begin where they were.
-use Rattle.std.proofs.Common.{◌≡◌, ℕ, refl, Option, Some, None}
-use Rattle.std.specs.Prelude.{Bool, true, false, [], ⊤}
-use Rattle.mix_core.specs.declared.marks.Marks.{Marks}
-use Rattle.pcm_states.specs.declared.calls.Call.{Call}
-use Rattle.pcm_states.specs.declared.calls.Call.TheVariants as call
-use Rattle.wav_io.specs.Sound.{Sound}
-use Rattle.course.specs.Course.{Course, ends}
-use Rattle.dmix_client.specs.declared.stream.PlaybackStream.{PlaybackStream}
-use Rattle.dmix_client.specs.Calls.{Answered, in_draining}
-use Rattle.dmix_client.specs.Course.{if_admitted}
-use Rattle.dsnoop_client.specs.declared.stream.CaptureStream as reading
-use Rattle.lab_lines.specs.declared.line.Op.{Op}
-use Rattle.lab_lines.specs.declared.line.Op.TheVariants as op
-use Rattle.lab_run.specs.Client.{Client, after_call, call_answer, begins, call_of, client_kind, dies_if, done_answer, line_by, line_if}
-use Rattle.lab_run.specs.Lines.{Kind}
-use Rattle.lab_run.specs.Reader.{Reader, reader_kind}
-use Rattle.lab_run.specs.Reader as readers
-use Rattle.lab_run.specs.Rules.{AtPort}
+use Rattle.lab_run.specs.Prelude.{None, Option, refl, Some, ℕ, ◌≡◌, Bool, false, true, [], ⊤, Call, Marks, Course, ends, PlaybackStream, Answered, in_draining}
+use Rattle.lab_run.specs.Prelude.{if_admitted, Sound, Op, after_call, begins, call_answer, call_of, Client, client_kind, dies_if, done_answer, line_by, line_if}
+use Rattle.lab_run.specs.Prelude.{Kind, Reader, reader_kind, AtPort}
 use Rattle.lab_run.proofs.CallParts.{IsSaying, Parts, call_of-says, done_answer-says, if_admitted-says, is_new_stretch}
-use Rattle.lab_run.proofs.ClientLeads as client_leads
 use Rattle.lab_run.proofs.Leads.{Anything, Led, Led-less, Led-then, LoadsFirst, OkLed, first-of, first-then}
+use Rattle.pcm_states.specs.declared.calls.Call.TheVariants as call
+use Rattle.dsnoop_client.specs.declared.stream.CaptureStream as reading
+use Rattle.lab_lines.specs.declared.line.Op.TheVariants as op
+use Rattle.lab_run.specs.Reader as readers
+use Rattle.lab_run.proofs.ClientLeads as client_leads
 use Rattle.lab_run.proofs.ReadParts as read_parts
 use Rattle.lab_run.proofs.ReaderLeads as reader_leads
 use Rattle.lab_run.proofs.RewindLeads as rewind_leads

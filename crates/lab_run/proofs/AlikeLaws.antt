@@ -1,14 +1,7 @@
 -- Laws of courses that differ in samples and words alone.
-use Rattle.std.proofs.Common.{ℕ, refl, sym, Option}
-use Rattle.std.specs.Prelude.{Bool, true, false, if◌then◌else◌}
-use Rattle.mix_core.specs.declared.port.Ended.{Ended}
-use Rattle.mix_core.specs.declared.port.Ended.TheVariants.{Whole, Late, Stopped}
-use Rattle.mix_core.specs.declared.port.Entry.{Entry}
-use Rattle.mix_core.specs.declared.port.Position.{Position}
-use Rattle.snoop_core.specs.declared.port.Got.{Got}
+use Rattle.lab_run.specs.Prelude.{Option, refl, sym, ℕ, Bool, false, if◌then◌else◌, true, Ended, Late, Stopped, Whole, Entry, Position, Got, Course, ends, gets}
+use Rattle.lab_run.specs.Prelude.{lays, loads, Takes, ◌>>=◌, Alike, IsFromOn, IsSamePlace}
 use Rattle.snoop_core.specs.declared.port.Got.TheVariants as got
-use Rattle.course.specs.Course.{◌>>=◌, Course, Takes, ends, gets, lays, loads}
-use Rattle.lab_run.specs.Alike.{Alike, IsFromOn, IsSamePlace}
 
 -- one course after another
 pub Alike-then : {A B C D : Type 0} (from : ℕ) (Q : A → B → Type 0) (R : C → D → Type 0) (m : Course A) (n : Course B) (f : A → Course C) (g : B → Course D)

@@ -1,24 +1,14 @@
 -- What an opening or closing leaves of a stage: the row of a refusal alone, or one client or reader anew. So what holds of these, and of
 -- phases, holds of any items.
-use Rattle.std.proofs.Common.{◌≡◌, ℕ, refl, sym, ap, subst, Option, Some, None}
-use Rattle.std.proofs.lemmas.List.{append-nil}
-use Rattle.std.specs.Prelude.{List, [], ◌∷◌, ◌++◌, slice_index_or, Result, Ok, Err, ⊤}
-use Rattle.snd_base.specs.declared.errors.PcmError.{PcmError}
-use Rattle.snd_base.specs.declared.geometry.Geometry.{Geometry}
-use Rattle.dmix_client.specs.declared.stream.PlaybackStream.{PlaybackStream}
+use Rattle.lab_run.specs.Prelude.{ap, None, Option, refl, Some, subst, sym, ℕ, ◌≡◌, append-nil, Err, List, Ok, Result, slice_index_or, [], ⊤, ◌++◌, ◌∷◌}
+use Rattle.lab_run.specs.Prelude.{PcmError, Geometry, PlaybackStream, Actor, Item, Line, Row, claim_refusal, Client, present_of, segments_of, ItemMay, ItemsMay}
+use Rattle.lab_run.specs.Prelude.{PhaseMay, after_attach, Lobby, after_close, after_open, attached_client, claimed_client, client_at, close_client}
+use Rattle.lab_run.specs.Prelude.{close_reader, ended_client, open_client, open_client_with, open_reader, open_reader_with, opened_client, opened_reader}
+use Rattle.lab_run.specs.Prelude.{reader_at, renewed_port, Session, Setup, Stage, with_client_at, with_reader, with_row}
 use Rattle.dsnoop_client.specs.declared.stream.CaptureStream as reading
 use Rattle.dshare.specs.Owners as owners
-use Rattle.lab_lines.specs.declared.line.Actor.{Actor}
 use Rattle.lab_lines.specs.declared.line.Actor.TheVariants as actor
-use Rattle.lab_lines.specs.declared.line.Item.{Item}
 use Rattle.lab_lines.specs.declared.line.Item.TheVariants as item
-use Rattle.lab_lines.specs.declared.line.Line.{Line}
-use Rattle.lab_lines.specs.declared.row.Row.{Row}
-use Rattle.lab_run.specs.Claims.{claim_refusal}
-use Rattle.lab_run.specs.Client.{Client, present_of, segments_of}
-use Rattle.lab_run.specs.Items.{ItemMay, ItemsMay, PhaseMay}
-use Rattle.lab_run.specs.Places.{Lobby, after_attach}
-use Rattle.lab_run.specs.Stage.{Session, Setup, Stage, after_close, after_open, attached_client, claimed_client, client_at, close_client, close_reader, ended_client, open_client, open_client_with, open_reader, open_reader_with, opened_client, opened_reader, reader_at, renewed_port, with_client_at, with_reader, with_row}
 
 -- a reader that was opened, or that isn't open
 abbrev pub IsAnew : Geometry → Option reading.CaptureStream → Type 0

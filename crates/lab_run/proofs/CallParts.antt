@@ -1,35 +1,21 @@
 -- What each call of a client leaves, where a fact may speak of what its steps did: by what the parts of a call leave.
 --     Saying, IsSaying      how a fact is said of a course that begins in one of some worlds
 --     Parts      what the parts of a client's calls leave
-use Rattle.std.proofs.Common.{◌≡◌, ℕ, ◌+◌, ◌-◌, ◌≤◌, refl, sym, ap, arith, Option, Some, None}
-use Rattle.std.proofs.lemmas.Bool.{false≢true}
-use Rattle.std.specs.Prelude.{Bool, true, false, ◌&&◌, nat_eq, nat_lt, if◌then◌else◌, min, is_some, ℤ, List, [], Ok, Err}
-use Rattle.snd_base.specs.declared.errors.PcmError.{PcmError}
-use Rattle.snd_base.specs.declared.errors.PcmError.TheVariants as error
-use Rattle.mix_core.specs.declared.marks.Marks.{Marks}
-use Rattle.pcm_states.specs.declared.calls.Call.{Call}
-use Rattle.pcm_states.specs.declared.calls.Call.TheVariants as call
-use Rattle.pcm_states.specs.declared.states.State.{State}
-use Rattle.pcm_states.specs.declared.states.State.TheVariants.{Draining, Prepared, Running}
-use Rattle.pcm_states.specs.Table.{next_of}
-use Rattle.pcm_stream.specs.declared.direction.Direction.TheVariants.{Playback}
+use Rattle.lab_run.specs.Prelude.{ap, arith, None, Option, refl, Some, sym, ℕ, ◌+◌, ◌-◌, ◌≡◌, ◌≤◌, false≢true, Bool, Err, false, if◌then◌else◌, is_some, List}
+use Rattle.lab_run.specs.Prelude.{min, nat_eq, nat_lt, Ok, true, ℤ, [], ◌&&◌, PcmError, Call, State, Draining, Prepared, Running, next_of, Playback, is_moving}
+use Rattle.lab_run.specs.Prelude.{refusal_of, Marks, Course, ends, ◌>>=◌, Gives, Gives-map, Gives-then, PlaybackStream, accepted_if, after_drop, after_pause}
+use Rattle.lab_run.specs.Prelude.{Answered, avail_answer, delay_answer, in_draining, is_prepared, is_running, taken_of, with_accepted, with_number}
+use Rattle.lab_run.specs.Prelude.{with_outcome, admitted_by, course_with_number, drain_course, drain_on, drains, fills, if_admitted, number_course}
+use Rattle.lab_run.specs.Prelude.{start_course, starts, starts_taking, sync_course, syncs, write_on, writes_on, checks, rewind_course, rewind_on}
+use Rattle.lab_run.specs.Prelude.{rewindable_course, rewindable_of, rewinds, without_frames, ring_with, starts_with, Sound, Op, Answer, Failed, call_answer}
+use Rattle.lab_run.specs.Prelude.{call_of, count_answer, done_answer, frames_of, write_course}
 use Rattle.pcm_stream.specs.declared.status.Status.{Status}
-use Rattle.pcm_stream.specs.Status.{is_moving, nothing_found, refusal_of}
-use Rattle.course.specs.Course.{◌>>=◌, Course, ends}
-use Rattle.course.specs.Gives.{Gives, Gives-map, Gives-then}
-use Rattle.wav_io.specs.Sound.{Sound}
-use Rattle.dmix_client.specs.declared.stream.PlaybackStream.{PlaybackStream}
-use Rattle.dmix_client.specs.Calls.{Answered, accepted_if, after_drop, after_pause, avail_answer, delay_answer, in_draining, is_prepared, is_running, taken_of, with_accepted, with_number, with_outcome}
-use Rattle.dmix_client.specs.Course.{admitted_by, course_with_number, drain_course, drain_on, drains, fills, if_admitted, number_course, start_course, starts, starts_taking, sync_course, syncs, write_on, writes_on}
+use Rattle.pcm_stream.specs.Status.{nothing_found}
 use Rattle.dmix_client.specs.EachCall.{IsStart}
 use Rattle.dmix_client.specs.Port.{IsFrameStep}
-use Rattle.dmix_client.specs.Rewind.{checks, rewind_course, rewind_on, rewindable_course, rewindable_of, rewinds, without_frames}
-use Rattle.dmix_client.specs.Writes.{ring_with, starts_with}
-use Rattle.lab_lines.specs.declared.line.Op.{Op}
+use Rattle.snd_base.specs.declared.errors.PcmError.TheVariants as error
+use Rattle.pcm_states.specs.declared.calls.Call.TheVariants as call
 use Rattle.lab_lines.specs.declared.line.Op.TheVariants as op
-use Rattle.lab_lines.specs.declared.row.Answer.{Answer}
-use Rattle.lab_lines.specs.declared.row.Answer.TheVariants.{Failed}
-use Rattle.lab_run.specs.Client.{call_answer, call_of, count_answer, done_answer, frames_of, write_course}
 
 -- ---- which calls the states allow
 

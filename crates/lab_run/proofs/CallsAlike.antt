@@ -1,34 +1,22 @@
 -- Each call of a client is like the call without its samples and words, of the client with another member, at a port with marks that are the same
 -- from a frame on.
-use Rattle.std.proofs.Common.{◌≡◌, ℕ, ◌+◌, ◌-◌, refl, ap, Option, Some, None, ◌≤◌, sym, ◌∙◌, subst, arith}
-use Rattle.std.specs.Prelude.{Bool, true, false, nat_eq, List, [], ◌∷◌, zero, suc, min, length, ℤ, Result, Ok, Err, OnOk, unwrap_or, if◌then◌else◌}
-use Rattle.snd_base.specs.declared.errors.PcmError.{PcmError}
-use Rattle.snd_base.specs.declared.places.Cursor.{Cursor}
-use Rattle.mix_core.specs.declared.port.Ended.{Ended}
-use Rattle.mix_core.specs.declared.port.Ended.TheVariants.{Whole, Late, Stopped}
-use Rattle.mix_core.specs.declared.port.Position.{Position}
-use Rattle.bindings.specs.Bound.{rising}
-use Rattle.pcm_states.specs.declared.states.State.{State}
-use Rattle.pcm_states.specs.declared.states.State.TheVariants.{Draining, Prepared, Running, Setup}
-use Rattle.pcm_states.specs.declared.calls.Call.{Call}
-use Rattle.pcm_states.specs.declared.calls.Call.TheVariants as call
-use Rattle.course.specs.Course.{◌>>=◌, Course, ends}
-use Rattle.dmix_client.specs.declared.commit.Commit.{Commit}
-use Rattle.dmix_client.specs.declared.stream.PlaybackStream.{PlaybackStream}
-use Rattle.pcm_stream.specs.declared.direction.Direction.TheVariants.{Playback}
-use Rattle.pcm_stream.specs.Status.{is_moving, refusal_of}
-use Rattle.dmix_client.specs.Calls.{Answered, with_accepted, accepted_if, avail_answer, avail_in, commit_count, delay_answer, delay_in, in_draining, after_drop, has_frames, is_running, after_pause, pending_of, after_prepare, with_new_base, after_resume, start_count, after_start, started_in, sync_count, after_sync, taken_of, with_number, written_after}
-use Rattle.dmix_client.specs.Course.{if_admitted, admitted_by, commit_at, commits, drain_course, drain_on, drains, fills, go_on, lay_each, lay_frame, lay_frames, looks, nothing, number_course, course_with_number, one_frame_more, one_more, pause_call, pause_course, resumes, start_course, starts, starts_taking, sync_course, syncs, takes_more, write_on, writes_on}
-use Rattle.dmix_client.specs.Course as client_calls
-use Rattle.dmix_client.specs.Rewind.{back_of, back_on, checks, rewind_left, rewind_course, rewind_on, rewindable_course, rewindable_of, rewinds, after_rewind, take_each, take_frames, takes_back, without_frames}
-use Rattle.dmix_client.specs.View.{ring_sample}
-use Rattle.dmix_client.specs.Writes.{count_with, frames_in, ring_with, starts_with}
-use Rattle.lab_lines.specs.declared.row.Answer.{Answer}
-use Rattle.lab_run.specs.Alike.{Alike, CallsAreAlike, IsFromOn, SameButMember, SameFrom}
-use Rattle.lab_run.specs.Client.{count_answer, done_answer, write_course}
-use Rattle.lab_run.specs.Members.{with_member}
+use Rattle.lab_run.specs.Prelude.{ap, arith, length, None, Option, refl, Some, subst, sym, ℕ, ◌+◌, ◌-◌, ◌∙◌, ◌≡◌, ◌≤◌, Bool, Err, false, if◌then◌else◌, List}
+use Rattle.lab_run.specs.Prelude.{min, nat_eq, Ok, OnOk, Result, suc, true, unwrap_or, zero, ℤ, [], ◌∷◌, PcmError, Cursor, rising, Call, State, Draining}
+use Rattle.lab_run.specs.Prelude.{Prepared, Running, Playback, is_moving, refusal_of, Ended, Late, Stopped, Whole, Position, Course, ends, ◌>>=◌, Commit}
+use Rattle.lab_run.specs.Prelude.{PlaybackStream, accepted_if, after_drop, after_pause, after_prepare, after_resume, after_start, after_sync, Answered}
+use Rattle.lab_run.specs.Prelude.{avail_answer, avail_in, commit_count, delay_answer, delay_in, has_frames, in_draining, is_running, pending_of, start_count}
+use Rattle.lab_run.specs.Prelude.{started_in, sync_count, taken_of, with_accepted, with_new_base, with_number, written_after, admitted_by, commit_at, commits}
+use Rattle.lab_run.specs.Prelude.{course_with_number, drain_course, drain_on, drains, fills, go_on, if_admitted, lay_each, lay_frame, lay_frames, looks}
+use Rattle.lab_run.specs.Prelude.{nothing, number_course, one_frame_more, one_more, pause_call, pause_course, resumes, start_course, starts, starts_taking}
+use Rattle.lab_run.specs.Prelude.{sync_course, syncs, takes_more, write_on, writes_on, after_rewind, back_of, back_on, checks, rewind_course, rewind_left}
+use Rattle.lab_run.specs.Prelude.{rewind_on, rewindable_course, rewindable_of, rewinds, take_each, take_frames, takes_back, without_frames, ring_sample}
+use Rattle.lab_run.specs.Prelude.{count_with, frames_in, ring_with, starts_with, Answer, Alike, CallsAreAlike, IsFromOn, SameButMember, SameFrom, count_answer}
+use Rattle.lab_run.specs.Prelude.{done_answer, write_course, with_member}
+use Rattle.pcm_states.specs.declared.states.State.TheVariants.{Setup}
 use Rattle.lab_run.proofs.AlikeLaws.{Alike-if, Alike-then, without_word}
 use Rattle.lab_run.proofs.ReportedWords.{accepted_if-alike, commit_without_word, resumed-word, rewound-word, after_start-word, after_sync-word, with_number-alike, written_after-word}
+use Rattle.pcm_states.specs.declared.calls.Call.TheVariants as call
+use Rattle.dmix_client.specs.Course as client_calls
 
 -- how far the samples of a frame were placed, and how far a commit got, but for the word
 abbrev SameEnd : ℕ × Ended → ℕ × Ended → Type 0

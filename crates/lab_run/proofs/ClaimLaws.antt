@@ -1,12 +1,7 @@
 -- A claim is granted exactly where its channels have no owner and are silent.
-use Rattle.std.proofs.Common.{◌≡◌, ℕ, ◌<◌, refl, arith, Option, Some, None}
-use Rattle.std.proofs.lemmas.Bool.{and_from, and_parts, false≢true}
-use Rattle.std.proofs.lemmas.Bool.Decides.{nat_tests}
-use Rattle.std.specs.Prelude.{Bool, true, false, is_none, nat_lt, if◌then◌else◌, List, [], ◌∷◌}
-use Rattle.std.specs.List.{AllByRecursion, list_all}
-use Rattle.snd_base.specs.declared.errors.PcmError.{PcmError}
+use Rattle.lab_run.specs.Prelude.{arith, None, Option, refl, Some, ℕ, ◌<◌, ◌≡◌, and_from, and_parts, false≢true, nat_tests, AllByRecursion, list_all, Bool}
+use Rattle.lab_run.specs.Prelude.{false, if◌then◌else◌, is_none, List, nat_lt, true, [], ◌∷◌, PcmError, ClaimIsOwners, is_free_channel}
 use Rattle.dshare.specs.Owners.{AreFree, ClaimRow, busy, last_frames, owner_of}
-use Rattle.lab_run.specs.Claims.{ClaimIsOwners, is_free_channel}
 
 silent : (position : ℕ) (frames : List ℕ) → list_all (λ frame. nat_lt frame position) frames ≡ true → AllByRecursion (λ frame. frame < position) frames
 silent position [] is = tt

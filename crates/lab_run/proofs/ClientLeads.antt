@@ -1,23 +1,11 @@
 -- What the calls of a client do loads a position before it places anything.
-use Rattle.std.proofs.Common.{◌≡◌, ℕ, ◌+◌, refl, Option, Some, None}
-use Rattle.std.specs.Prelude.{Bool, true, false, nat_eq, List, [], ◌∷◌, zero, suc, ℤ, Ok, Err, ⊤}
-use Rattle.snd_base.specs.declared.places.Cursor.{Cursor}
-use Rattle.mix_core.specs.declared.port.Ended.{Ended}
-use Rattle.mix_core.specs.declared.port.Ended.TheVariants.{Whole, Late, Stopped}
-use Rattle.mix_core.specs.declared.port.Position.{Position}
-use Rattle.bindings.specs.Bound.{rising}
-use Rattle.pcm_states.specs.declared.states.State.{State}
-use Rattle.pcm_states.specs.declared.states.State.TheVariants.{Running}
-use Rattle.pcm_states.specs.declared.calls.Call.{Call}
-use Rattle.pcm_states.specs.declared.calls.Call.TheVariants as call
-use Rattle.course.specs.Course.{◌>>=◌, Course, ends}
-use Rattle.dmix_client.specs.declared.commit.Commit.{Commit}
-use Rattle.dmix_client.specs.declared.stream.PlaybackStream.{PlaybackStream}
-use Rattle.dmix_client.specs.Calls.{Answered, pending_of, with_new_base, after_resume, start_count, after_start, started_in, sync_count, after_sync, taken_of, written_after}
-use Rattle.dmix_client.specs.Course.{commit_at, commits, drain_on, go_on, lay_each, lay_frame, lay_frames, lay_on, looks, one_frame_more, one_more, pause_course, resumes, starts, syncs, takes_more, write_on}
-use Rattle.dmix_client.specs.View.{ring_sample}
-use Rattle.dmix_client.specs.Writes.{count_with, ring_with}
+use Rattle.lab_run.specs.Prelude.{None, Option, refl, Some, ℕ, ◌+◌, ◌≡◌, Bool, Err, false, List, nat_eq, Ok, suc, true, zero, ℤ, [], ⊤, ◌∷◌, Cursor, rising}
+use Rattle.lab_run.specs.Prelude.{Call, State, Running, Ended, Late, Stopped, Whole, Position, Course, ends, ◌>>=◌, Commit, PlaybackStream, after_resume}
+use Rattle.lab_run.specs.Prelude.{after_start, after_sync, Answered, pending_of, start_count, started_in, sync_count, taken_of, with_new_base, written_after}
+use Rattle.lab_run.specs.Prelude.{commit_at, commits, drain_on, go_on, lay_each, lay_frame, lay_frames, lay_on, looks, one_frame_more, one_more, pause_course}
+use Rattle.lab_run.specs.Prelude.{resumes, starts, syncs, takes_more, write_on, ring_sample, count_with, ring_with}
 use Rattle.lab_run.proofs.Leads.{Anything, IsLed, Led, Led-if, Led-then, LoadsFirst, OkLed, first-of, is_loaded, on-ok}
+use Rattle.pcm_states.specs.declared.calls.Call.TheVariants as call
 
 lay_on-led : (rest : Course (ℕ × Ended)) (ended : Ended) → Led IsLed true rest → Led IsLed true (lay_on ended rest)
 lay_on-led rest Whole led = Led-then IsLed IsLed true rest (λ end. ends (one_more end)) led (λ l x is. is)

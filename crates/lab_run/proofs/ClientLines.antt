@@ -1,40 +1,19 @@
 -- A client's line, as the client did it at its port, is a part of that client.
-use Rattle.std.proofs.Common.{◌≡◌, ℕ, refl, sym, ◌∙◌, ap, subst}
-use Rattle.std.specs.Prelude.{true, false, ℤ, List, ◌++◌, Option, Some, Result}
-use Rattle.snd_base.specs.declared.errors.PcmError.{PcmError}
-use Rattle.snd_base.specs.declared.geometry.Geometry.{Geometry}
-use Rattle.snd_base.specs.declared.places.Cursor.{Cursor}
-use Rattle.snd_base.specs.declared.places.Segment.{Segment}
-use Rattle.snd_base.specs.Relations.{Composes}
-use Rattle.mix_core.specs.declared.gate.Gate as gates
-use Rattle.mix_core.specs.declared.marks.Marks.{Marks}
-use Rattle.mix_core.specs.declared.port.Entry.{Entry}
-use Rattle.mix_core.specs.declared.port.MixPort as mixport
-use Rattle.mix_core.specs.Port.{ShowsFrom}
-use Rattle.pcm_states.specs.declared.calls.Call.TheVariants as call
-use Rattle.wav_io.specs.Sound.{Sound}
-use Rattle.course.specs.AtPort.{LaysAt, LoadsAt, NoGet, TakesAt}
-use Rattle.course.specs.Course.{◌>>=◌, Course, Takes, ends}
-use Rattle.course.specs.CourseLaws.{Takes-map}
-use Rattle.dmix_client.specs.declared.stream.PlaybackStream.{PlaybackStream}
-use Rattle.dmix_client.specs.Calls.{Answered}
-use Rattle.dmix_client.specs.Course.{if_admitted}
-use Rattle.dmix_client.specs.Course as client_calls
-use Rattle.lab_lines.specs.declared.line.Op.{Op}
-use Rattle.lab_lines.specs.declared.line.Op.TheVariants as op
-use Rattle.lab_lines.specs.declared.row.Answer.{Answer}
-use Rattle.lab_run.specs.ActorPart.{DoesGet, DoesLay, DoesLoad, Doing}
-use Rattle.lab_run.specs.Alike.{Alike, CallsAreAlike, SameButMember, SameFrom}
-use Rattle.lab_run.specs.Client.{Client, after_call, call_answer, begins, call_of, count_answer, dies_if, done_answer, line_by, line_if, write_course}
-use Rattle.lab_run.specs.ClientAtPort.{ClientLinesAreParts, IsOffered, MakesCall, after_seat_call, is_die, made_call}
-use Rattle.lab_run.specs.Members.{with_member}
-use Rattle.lab_run.specs.PortSteps.{CountsDown, MarksAlike}
-use Rattle.lab_run.specs.Rules.{AtPort}
+use Rattle.lab_run.specs.Prelude.{ap, Option, refl, Some, subst, sym, ℕ, ◌∙◌, ◌≡◌, false, List, Result, true, ℤ, ◌++◌, PcmError, Geometry, Cursor, Segment}
+use Rattle.lab_run.specs.Prelude.{Composes, Marks, Entry, ShowsFrom, LaysAt, LoadsAt, NoGet, TakesAt, Course, ends, Takes, ◌>>=◌, Takes-map, PlaybackStream}
+use Rattle.lab_run.specs.Prelude.{Answered, if_admitted, Sound, Op, Answer, DoesGet, DoesLay, DoesLoad, Doing, Alike, CallsAreAlike, SameButMember, SameFrom}
+use Rattle.lab_run.specs.Prelude.{after_call, begins, call_answer, call_of, Client, count_answer, dies_if, done_answer, line_by, line_if, write_course}
+use Rattle.lab_run.specs.Prelude.{after_seat_call, ClientLinesAreParts, is_die, IsOffered, made_call, MakesCall, with_member, CountsDown, MarksAlike, AtPort}
 use Rattle.lab_run.proofs.AlikeLaws.{Alike-then}
 use Rattle.lab_run.proofs.CallsAlike.{calls-alike}
 use Rattle.lab_run.proofs.MarksLaws.{cursor-same, floor-same}
 use Rattle.lab_run.proofs.MemberLaws.{ended-member}
 use Rattle.lab_run.proofs.PortLaws.{course-part}
+use Rattle.mix_core.specs.declared.gate.Gate as gates
+use Rattle.mix_core.specs.declared.port.MixPort as mixport
+use Rattle.pcm_states.specs.declared.calls.Call.TheVariants as call
+use Rattle.dmix_client.specs.Course as client_calls
+use Rattle.lab_lines.specs.declared.line.Op.TheVariants as op
 
 -- a client and an answer, and those of the client with another member
 abbrev IsRenumbered : ℕ → PlaybackStream × Answer → PlaybackStream × Answer → Type 0

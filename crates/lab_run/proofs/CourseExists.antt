@@ -1,12 +1,8 @@
 -- What a course gives where a phase leaves no choice is something that it may give.
-use Rattle.std.proofs.Common.{◌≡◌, ℕ, ◌<◌, ◌≤◌, ◌+◌, refl, sym, ◌∙◌, ap, arith, inl, inr, Option, Some, None}
-use Rattle.std.proofs.lemmas.Bool.Decides.{nat_tests}
-use Rattle.std.specs.Prelude.{Bool, true, false, nat_le, Contains, ◌-◌}
-use Rattle.mix_core.specs.declared.port.Entry.{Entry}
+use Rattle.lab_run.specs.Prelude.{ap, arith, inl, inr, None, Option, refl, Some, sym, ℕ, ◌+◌, ◌-◌, ◌<◌, ◌∙◌, ◌≡◌, ◌≤◌, nat_tests, Bool, Contains, false, nat_le}
+use Rattle.lab_run.specs.Prelude.{true, Entry, Course, ends, gets, lays, loads, asks_left, course_text, get_by, get_text, lay_by, lay_text, load_by, load_text}
+use Rattle.lab_run.specs.Prelude.{out_of_asks, AtPort, lets_pass, May, MayGet, MayLay, MayLoad, Rules, with_asks, with_stop}
 use Rattle.snoop_core.specs.declared.port.Got.TheVariants as got
-use Rattle.course.specs.Course.{Course, ends, gets, lays, loads}
-use Rattle.lab_run.specs.Rules.{AtPort, May, MayGet, MayLay, MayLoad, Rules, lets_pass, with_asks, with_stop}
-use Rattle.lab_run.specs.CourseText.{asks_left, course_text, get_by, get_text, lay_by, lay_text, load_by, load_text, out_of_asks}
 
 -- nothing is left after the last ask that passes
 pub last-ask : (asks : ℕ) (left : Option ℕ) → lets_pass asks left ≡ true → lets_pass (asks + 1) left ≡ false → left ≡ Some asks

@@ -1,18 +1,11 @@
 -- Where a phase leaves no choice a course gives one thing alone.
-use Rattle.std.proofs.Common.{◌≡◌, ℕ, ◌≤◌, ◌+◌, refl, sym, ◌∙◌, ap, arith, inl, inr, Option, Some, None, ◌⊎◌}
-use Rattle.std.proofs.lemmas.Bool.Decides.{nat_tests}
-use Rattle.std.specs.Prelude.{Bool, true, false, nat_le}
-use Rattle.mix_core.specs.declared.port.Ended.{Ended}
-use Rattle.mix_core.specs.declared.port.Ended.TheVariants.{Whole, Late, Stopped}
-use Rattle.mix_core.specs.declared.port.Entry.{Entry}
-use Rattle.mix_core.specs.declared.port.Position.{Position}
-use Rattle.snoop_core.specs.declared.port.Got.{Got}
-use Rattle.snoop_core.specs.declared.port.Got.TheVariants as got
-use Rattle.course.specs.Course.{Course, ends, gets, lays, loads}
-use Rattle.lab_run.specs.Rules.{AtPort, May, MayGet, MayLay, MayLoad, Rules, left_after, lets_pass, with_asks, with_load, with_stop, with_stop_by}
-use Rattle.lab_run.specs.CourseText.{IsStill, course_text, get_by, get_text, lay_by, lay_text, load_by, load_text, out_of_asks}
+use Rattle.lab_run.specs.Prelude.{ap, arith, inl, inr, None, Option, refl, Some, sym, ℕ, ◌+◌, ◌∙◌, ◌≡◌, ◌≤◌, ◌⊎◌, nat_tests, Bool, false, nat_le, true, Ended}
+use Rattle.lab_run.specs.Prelude.{Late, Stopped, Whole, Entry, Position, Got, Course, ends, gets, lays, loads, course_text, get_by, get_text, IsStill, lay_by}
+use Rattle.lab_run.specs.Prelude.{lay_text, load_by, load_text, out_of_asks, AtPort, left_after, lets_pass, May, MayGet, MayLay, MayLoad, Rules, with_asks}
+use Rattle.lab_run.specs.Prelude.{with_load, with_stop, with_stop_by}
 use Rattle.lab_run.proofs.CourseExists.{stop-at, stop-at_once}
 use Rattle.lab_run.proofs.Leads.{LoadsFirst, is_loaded}
+use Rattle.snoop_core.specs.declared.port.Got.TheVariants as got
 
 -- stops by an actor's own gate are never taken back
 stop-more : (a : AtPort) → a.by_gate ≤ (with_stop a).by_gate

@@ -1,20 +1,11 @@
 -- The lines of an actor in a phase, and the lines of all actors of a kind: there is always one way to do them, and where the phase leaves
 -- no choice there is but one.
-use Rattle.std.proofs.Common.{◌≡◌, ℕ, ◌≤◌, ◌+◌, refl, sym, ◌∙◌, ap, subst, arith, inl, inr, ◌⊎◌}
-use Rattle.std.specs.Prelude.{Bool, true, false, List, [], ◌∷◌, ◌++◌, Contains, ⊤, map}
-use Rattle.snd_base.specs.declared.geometry.Geometry.{Geometry}
-use Rattle.lab_lines.specs.declared.line.Op.{Op}
-use Rattle.lab_lines.specs.declared.row.Answer.{Answer}
-use Rattle.lab_lines.specs.declared.row.Row.{Row}
-use Rattle.lab_run.specs.Client.{Client}
-use Rattle.lab_run.specs.CourseText.{IsStill}
-use Rattle.lab_run.specs.Items.{is_reader_stopped, is_stopped, reaped_client, reaped_client_if, reaped_reader, reaped_reader_if}
-use Rattle.lab_run.specs.Lines.{EachMay, Kind, LineMay, LinesMay, each_text, line_text, lines_text}
-use Rattle.lab_run.specs.Reader.{Reader}
-use Rattle.lab_run.specs.Rules.{AtPort, CardEnd, Rules}
+use Rattle.lab_run.specs.Prelude.{ap, arith, inl, inr, refl, subst, sym, ℕ, ◌+◌, ◌∙◌, ◌≡◌, ◌≤◌, ◌⊎◌, Bool, Contains, false, List, map, true, [], ⊤, ◌++◌, ◌∷◌}
+use Rattle.lab_run.specs.Prelude.{Geometry, Op, Answer, Row, Client, IsStill, is_reader_stopped, is_stopped, reaped_client, reaped_client_if, reaped_reader}
+use Rattle.lab_run.specs.Prelude.{reaped_reader_if, each_text, EachMay, Kind, line_text, LineMay, lines_text, LinesMay, Reader, AtPort, CardEnd, Rules}
+use Rattle.lab_run.proofs.ActorKinds.{IsKind}
 use Rattle.lab_run.proofs.CourseExists.{May-text}
 use Rattle.lab_run.proofs.CourseUnique.{May-more, May-only}
-use Rattle.lab_run.proofs.ActorKinds.{IsKind}
 
 -- the card publishes the position at the phase's end
 abbrev pub IsPublished : Rules → Type 0

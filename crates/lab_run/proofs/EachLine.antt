@@ -1,22 +1,10 @@
 -- What each line of a client or a reader leaves: what its call leaves, or what is so of an actor that is left as it is.
-use Rattle.std.proofs.Common.{◌≡◌, ℕ, refl, sym, subst, Option, Some, None}
-use Rattle.std.specs.Prelude.{Bool, true, false}
+use Rattle.lab_run.specs.Prelude.{None, Option, refl, Some, subst, sym, ℕ, ◌≡◌, Bool, false, true, Marks, ends, ◌>>=◌, Gives, Gives-taken, Gives-then}
+use Rattle.lab_run.specs.Prelude.{PlaybackStream, CaptureStream, Sound, Op, Answer, Done, Failed, after_call, begins, call_of, Client, client_kind, line_by}
+use Rattle.lab_run.specs.Prelude.{line_if, LineMay, Reader, reader_kind, AtPort, MayGet, MayLay, MayLoad, Rules}
 use Rattle.snd_base.specs.declared.errors.PcmError.TheVariants as error
-use Rattle.mix_core.specs.declared.marks.Marks.{Marks}
-use Rattle.course.specs.Course.{◌>>=◌, ends}
-use Rattle.course.specs.Gives.{Gives, Gives-taken, Gives-then}
-use Rattle.wav_io.specs.Sound.{Sound}
-use Rattle.dmix_client.specs.declared.stream.PlaybackStream.{PlaybackStream}
-use Rattle.dsnoop_client.specs.declared.stream.CaptureStream.{CaptureStream}
-use Rattle.lab_lines.specs.declared.line.Op.{Op}
 use Rattle.lab_lines.specs.declared.line.Op.TheVariants as op
-use Rattle.lab_lines.specs.declared.row.Answer.{Answer}
-use Rattle.lab_lines.specs.declared.row.Answer.TheVariants.{Done, Failed}
-use Rattle.lab_run.specs.Client.{Client, after_call, begins, call_of, client_kind, line_by, line_if}
-use Rattle.lab_run.specs.Lines.{LineMay}
-use Rattle.lab_run.specs.Reader.{Reader, reader_kind}
 use Rattle.lab_run.specs.Reader as readers
-use Rattle.lab_run.specs.Rules.{AtPort, MayGet, MayLay, MayLoad, Rules}
 
 -- ---- clients
 

@@ -1,11 +1,6 @@
 -- Courses that load a position before they place or get anything.
-use Rattle.std.proofs.Common.{◌≡◌, Option, Some, None}
-use Rattle.std.specs.Prelude.{Bool, true, false, if◌then◌else◌, Result, Ok, Err, ⊤, OnOk}
-use Rattle.snd_base.specs.declared.errors.PcmError.{PcmError}
-use Rattle.mix_core.specs.declared.port.Ended.{Ended}
-use Rattle.mix_core.specs.declared.port.Position.{Position}
-use Rattle.snoop_core.specs.declared.port.Got.{Got}
-use Rattle.course.specs.Course.{◌>>=◌, Course, ends, gets, lays, loads}
+use Rattle.lab_run.specs.Prelude.{None, Option, Some, ◌≡◌, Bool, Err, false, if◌then◌else◌, Ok, OnOk, Result, true, ⊤, PcmError, Ended, Position, Got, Course}
+use Rattle.lab_run.specs.Prelude.{ends, gets, lays, loads, ◌>>=◌}
 
 abbrev pub is_loaded : Bool → Option Position → Bool
 is_loaded loaded None = loaded

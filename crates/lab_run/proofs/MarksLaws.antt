@@ -1,19 +1,11 @@
 -- Marks of a port that others used before are to an actor those of a new one.
-use Rattle.std.proofs.Common.{◌≡◌, ℕ, ◌+◌, ◌<◌, ◌≤◌, ◌⊎◌, refl, sym, ◌∙◌, ap, subst, arith, inl, inr, Option, Some, None}
-use Rattle.std.proofs.lemmas.Bool.Decides.{nat_tests}
-use Rattle.std.specs.Prelude.{Bool, true, false, nat_le, nat_lt, max, if◌then◌else◌}
-use Rattle.snd_base.specs.declared.geometry.Geometry.{Geometry}
-use Rattle.snd_base.specs.declared.places.Cursor.{Cursor}
+use Rattle.lab_run.specs.Prelude.{ap, arith, inl, inr, None, Option, refl, Some, subst, sym, ℕ, ◌+◌, ◌<◌, ◌∙◌, ◌≡◌, ◌≤◌, ◌⊎◌, nat_tests, Bool, false}
+use Rattle.lab_run.specs.Prelude.{if◌then◌else◌, max, nat_le, nat_lt, true, Geometry, Cursor, Marks, Entry, marks_after, marks_with, SameFrom, last_of}
+use Rattle.lab_run.specs.Prelude.{HasLaidNone, HasOwnLast, IsLastSince, IsLow, IsPastFrame, laid, last_from, MarksAlike, moved, untouched}
 use Rattle.snd_base.specs.Places.{cursor_after, first_free}
-use Rattle.mix_core.specs.declared.marks.Marks.{Marks}
-use Rattle.mix_core.specs.declared.port.Entry.{Entry}
 use Rattle.mix_core.specs.declared.port.Kind.{Kind}
 use Rattle.mix_core.specs.declared.port.Kind.TheVariants.{Added, Withdrawn}
-use Rattle.mix_core.specs.Laid.{marks_with, marks_after}
 use Rattle.mix_core.specs.Marks.{floor_after, high_frame, is_before, last_before, later_of, start_of}
-use Rattle.lab_run.specs.Alike.{SameFrom}
-use Rattle.lab_run.specs.Places.{last_of}
-use Rattle.lab_run.specs.PortSteps.{HasLaidNone, HasOwnLast, IsLastSince, IsLow, IsPastFrame, MarksAlike, laid, last_from, moved, untouched}
 
 low-same : (from : ℕ) (one other : Cursor) → IsLow from one → IsLow from other → SameFrom from one other
 low-same from one other low low_other position after = low_max one low ∙ sym (low_max other low_other)

@@ -1,19 +1,9 @@
 -- A client's member is in no report, and changes no frame, channel or sample that is placed.
-use Rattle.std.proofs.Common.{◌≡◌, ℕ, ◌+◌, List, [], ◌∷◌, refl, sym, ◌∙◌, ap}
-use Rattle.std.proofs.lemmas.List.{map-append}
-use Rattle.std.specs.Prelude.{Bool, true, false, ℤ, ◌++◌, length, map, filter, take}
-use Rattle.std.specs.List.{flat_map, range_with_len}
-use Rattle.mix_core.specs.declared.port.Entry.{Entry}
-use Rattle.mix_core.specs.Laid.{is_at, sum_of_samples, value_of}
-use Rattle.bindings.specs.Bound.{rising}
-use Rattle.dmix_client.specs.declared.stream.PlaybackStream.{PlaybackStream}
+use Rattle.lab_run.specs.Prelude.{ap, length, refl, sym, take, ℕ, ◌+◌, ◌∙◌, ◌≡◌, map-append, flat_map, range_with_len, Bool, false, filter, List, map, true, ℤ}
+use Rattle.lab_run.specs.Prelude.{[], ◌++◌, ◌∷◌, rising, Entry, is_at, sum_of_samples, value_of, PlaybackStream, Op, Answer, Done, ended_by}
+use Rattle.lab_run.specs.Prelude.{MembersAreUnreported, MembersLayAlike, of_member, with_member}
 use Rattle.dmix_client.specs.Expansion.{frame_entries, run_entries, sample_at}
-use Rattle.lab_lines.specs.declared.line.Op.{Op}
 use Rattle.lab_lines.specs.declared.line.Op.TheVariants as op
-use Rattle.lab_lines.specs.declared.row.Answer.{Answer}
-use Rattle.lab_lines.specs.declared.row.Answer.TheVariants.{Done}
-use Rattle.lab_run.specs.Client.{ended_by}
-use Rattle.lab_run.specs.Members.{MembersAreUnreported, MembersLayAlike, of_member, with_member}
 
 pub ended-member : (member : ℕ) (asked : Op) (answer : Answer) (c d : PlaybackStream) → ended_by asked answer (with_member member c) (with_member member d) ≡ ended_by asked answer c d
 ended-member member op.Prepare Done c d = refl

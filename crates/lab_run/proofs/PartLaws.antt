@@ -1,18 +1,8 @@
 -- An actor whose findings are known of did what the phase allows.
-use Rattle.std.proofs.Common.{◌≡◌, ℕ, Option, Some, None}
-use Rattle.std.specs.Prelude.{List, [], ◌∷◌, ◌++◌}
-use Rattle.mix_core.specs.declared.port.Ended.{Ended}
-use Rattle.mix_core.specs.declared.port.Ended.TheVariants.{Whole, Late, Stopped}
-use Rattle.mix_core.specs.declared.port.Entry.{Entry}
-use Rattle.mix_core.specs.declared.port.Position.{Position}
-use Rattle.snoop_core.specs.declared.port.Got.{Got}
+use Rattle.lab_run.specs.Prelude.{None, Option, Some, ℕ, ◌≡◌, List, [], ◌++◌, ◌∷◌, Ended, Late, Stopped, Whole, Entry, Position, Got, Course, ends, gets, lays}
+use Rattle.lab_run.specs.Prelude.{loads, Takes, Op, Row, ActorPart, AreOf, DoesGet, DoesLay, DoesLoad, Each, Findings, nothing_found, PartsAreRuns, with_late}
+use Rattle.lab_run.specs.Prelude.{with_overtaken, with_position, Kind, LinesMay, AtPort, May, MayGet, MayLay, MayLoad, Rules}
 use Rattle.snoop_core.specs.declared.port.Got.TheVariants as got
-use Rattle.course.specs.Course.{Course, Takes, ends, gets, lays, loads}
-use Rattle.lab_lines.specs.declared.line.Op.{Op}
-use Rattle.lab_lines.specs.declared.row.Row.{Row}
-use Rattle.lab_run.specs.ActorPart.{ActorPart, AreOf, DoesGet, DoesLay, DoesLoad, Each, Findings, PartsAreRuns, nothing_found, with_late, with_overtaken, with_position}
-use Rattle.lab_run.specs.Lines.{Kind, LinesMay}
-use Rattle.lab_run.specs.Rules.{AtPort, May, MayGet, MayLay, MayLoad, Rules}
 
 Each-last : {X : Type 0} (P : X → Type 0) (xs : List X) (x : X) → Each P (xs ++ x ∷ []) → Each P xs × P x
 Each-last P [] x each = (tt, each.0)

@@ -1,24 +1,12 @@
 -- An actor's part, with one line more; and the lines that make no call.
-use Rattle.std.proofs.Common.{◌≡◌, ℕ, refl, sym, ap, subst, Option, Some}
-use Rattle.std.specs.Prelude.{Bool, true, false, List, [], ◌∷◌, ◌++◌}
-use Rattle.snd_base.specs.declared.errors.PcmError.TheVariants.{BadState, Stopped}
-use Rattle.snd_base.specs.declared.geometry.Geometry.{Geometry}
-use Rattle.wav_io.specs.Sound.{Sound}
-use Rattle.course.specs.Course.{Takes}
-use Rattle.dmix_client.specs.declared.stream.PlaybackStream.{PlaybackStream}
+use Rattle.lab_run.specs.Prelude.{ap, Option, refl, Some, subst, sym, ℕ, ◌≡◌, Bool, false, List, true, [], ◌++◌, ◌∷◌, BadState, Geometry, Takes, PlaybackStream}
+use Rattle.lab_run.specs.Prelude.{Sound, Op, Answer, Done, Failed, Row, DoesGet, DoesLay, DoesLoad, Findings, PartsGrow, ClientLinesWithoutCall, Kind}
+use Rattle.lab_run.specs.Prelude.{ReaderLinesWithoutCall, AtPort}
+use Rattle.snd_base.specs.declared.errors.PcmError.TheVariants.{Stopped}
 use Rattle.dsnoop_client.specs.declared.stream.CaptureStream as reading
-use Rattle.lab_lines.specs.declared.line.Op.{Op}
 use Rattle.lab_lines.specs.declared.line.Op.TheVariants as op
-use Rattle.lab_lines.specs.declared.row.Answer.{Answer}
-use Rattle.lab_lines.specs.declared.row.Answer.TheVariants.{Done, Failed}
-use Rattle.lab_lines.specs.declared.row.Row.{Row}
-use Rattle.lab_run.specs.ActorPart.{DoesGet, DoesLay, DoesLoad, Findings, PartsGrow}
 use Rattle.lab_run.specs.Client as clients
-use Rattle.lab_run.specs.ClientAtPort.{ClientLinesWithoutCall}
-use Rattle.lab_run.specs.Lines.{Kind}
 use Rattle.lab_run.specs.Reader as readers
-use Rattle.lab_run.specs.ReaderAtPort.{ReaderLinesWithoutCall}
-use Rattle.lab_run.specs.Rules.{AtPort}
 
 pub parts-grow : {S : Type 0} (kind : Kind S) (ring : Geometry) → PartsGrow kind ring
 parts-grow {S = S} kind ring before between after [] rows asked answer part done =

@@ -1,32 +1,18 @@
 -- A course that was taken at a port and its gate is a part of an actor.
-use Rattle.std.proofs.Common.{◌≡◌, ℕ, zero, suc, ◌+◌, ◌/◌, ◌<◌, ◌≤◌, refl, sym, ◌∙◌, ap, subst, arith, inl, inr, Option, Some, None}
-use Rattle.std.proofs.lemmas.Bool.Decides.{nat_tests}
-use Rattle.std.specs.Prelude.{Bool, true, false, nat_le, List, [], ◌∷◌, ◌++◌, replicate}
-use Rattle.snd_base.specs.declared.geometry.Geometry.{Geometry}
-use Rattle.snd_base.specs.Relations.{Composes, Composes-none_after}
+use Rattle.lab_run.specs.Prelude.{ap, arith, inl, inr, None, Option, refl, Some, subst, sym, ℕ, ◌+◌, ◌/◌, ◌<◌, ◌∙◌, ◌≡◌, ◌≤◌, nat_tests, Bool, false, List}
+use Rattle.lab_run.specs.Prelude.{nat_le, replicate, suc, true, zero, [], ◌++◌, ◌∷◌, Geometry, Composes, Composes-none_after, Pass, Go, Stop, StepKind, Again}
+use Rattle.lab_run.specs.Prelude.{Marks, Ended, Late, Stopped, Whole, Entry, marks_after, marks_with, without_last, entry_if, IsPast, PortView, ShowsFrom}
+use Rattle.lab_run.specs.Prelude.{LaysAt, LoadsAt, NoGet, TakesAt, Course, DoesGet, DoesLay, DoesLoad, Doing, Each, with_late, with_position, Alike, IsFromOn}
+use Rattle.lab_run.specs.Prelude.{IsSamePlace, ask_count, CountsDown, IsActorPart, IsAnswered, IsAtPort, last_kind, with_gate, AtPort, left_after, lets_pass}
+use Rattle.lab_run.specs.Prelude.{with_asks, with_gate_stop, with_stop}
 use Rattle.lap_word.specs.Word.{lap_of}
+use Rattle.mix_core.specs.declared.gate.StepKind.TheVariants.{Position}
+use Rattle.mix_core.specs.Gate.{placement_asks}
+use Rattle.lab_run.proofs.AlikeLaws.{Takes-alike, without_word}
+use Rattle.lab_run.proofs.MarksLaws.{entry-alike}
 use Rattle.mix_core.specs.declared.gate.Gate as gates
-use Rattle.mix_core.specs.declared.gate.Pass.{Pass}
-use Rattle.mix_core.specs.declared.gate.Pass.TheVariants.{Go, Stop}
-use Rattle.mix_core.specs.declared.gate.StepKind.{StepKind}
-use Rattle.mix_core.specs.declared.gate.StepKind.TheVariants.{Again, Position}
-use Rattle.mix_core.specs.declared.marks.Marks.{Marks}
-use Rattle.mix_core.specs.declared.port.Ended.{Ended}
-use Rattle.mix_core.specs.declared.port.Ended.TheVariants.{Whole, Late, Stopped}
-use Rattle.mix_core.specs.declared.port.Entry.{Entry}
 use Rattle.mix_core.specs.declared.port.MixPort as mixport
 use Rattle.mix_core.specs.declared.port.Position as positions
-use Rattle.mix_core.specs.Gate.{placement_asks}
-use Rattle.mix_core.specs.Laid.{marks_with, marks_after, without_last}
-use Rattle.mix_core.specs.Port.{IsPast, PortView, ShowsFrom, entry_if}
-use Rattle.course.specs.AtPort.{LaysAt, LoadsAt, NoGet, TakesAt}
-use Rattle.course.specs.Course.{Course}
-use Rattle.lab_run.specs.ActorPart.{DoesGet, DoesLay, DoesLoad, Doing, Each, with_late, with_position}
-use Rattle.lab_run.specs.Alike.{Alike, IsFromOn, IsSamePlace}
-use Rattle.lab_run.specs.PortSteps.{CountsDown, IsAnswered, IsAtPort, IsActorPart, ask_count, last_kind, with_gate}
-use Rattle.lab_run.specs.Rules.{AtPort, left_after, lets_pass, with_asks, with_gate_stop, with_stop}
-use Rattle.lab_run.proofs.MarksLaws.{entry-alike}
-use Rattle.lab_run.proofs.AlikeLaws.{Takes-alike, without_word}
 
 -- ---- asks
 

@@ -1,26 +1,17 @@
 -- What each call of a reader leaves, where a fact may speak of what its steps did: by what the parts of a call leave.
 --     Parts      what the parts of a reader's calls leave
-use Rattle.std.proofs.Common.{◌≡◌, ℕ, refl, Option, Some, None}
-use Rattle.std.specs.Prelude.{Bool, true, false, if◌then◌else◌, nat_le, Ok, Err}
-use Rattle.snd_base.specs.declared.errors.PcmError.{PcmError}
-use Rattle.snd_base.specs.declared.errors.PcmError.TheVariants as error
-use Rattle.pcm_states.specs.declared.calls.Call.{Call}
-use Rattle.pcm_states.specs.declared.calls.Call.TheVariants as call
-use Rattle.pcm_states.specs.declared.states.State.TheVariants.{Prepared, Setup}
-use Rattle.pcm_stream.specs.declared.direction.Direction.TheVariants.{Capture}
-use Rattle.pcm_stream.specs.Status.{refusal_of}
-use Rattle.course.specs.Course.{Course, ends}
-use Rattle.dsnoop_client.specs.declared.stream.CaptureStream.{CaptureStream}
-use Rattle.dsnoop_client.specs.Calls.{Answered, in_state, waits, with_avail}
-use Rattle.dsnoop_client.specs.Course.{admitted_by, avail_course, counts, if_admitted, read_course, reads_first, reads_on, starts, sync_course, syncs, transfer_on}
+use Rattle.lab_run.specs.Prelude.{None, Option, refl, Some, ℕ, ◌≡◌, Bool, Err, false, if◌then◌else◌, nat_le, Ok, true, PcmError, Call, Prepared, Capture}
+use Rattle.lab_run.specs.Prelude.{refusal_of, Course, ends, CaptureStream, in_state, waits, with_avail, avail_course, counts, read_course, reads_first}
+use Rattle.lab_run.specs.Prelude.{reads_on, transfer_on, Op, Answer, Failed, count_answer, done_answer}
+use Rattle.pcm_states.specs.declared.states.State.TheVariants.{Setup}
+use Rattle.dsnoop_client.specs.Calls.{Answered}
+use Rattle.dsnoop_client.specs.Course.{admitted_by, if_admitted, starts, sync_course, syncs}
 use Rattle.dsnoop_client.specs.View.{is_running}
-use Rattle.lab_lines.specs.declared.line.Op.{Op}
-use Rattle.lab_lines.specs.declared.line.Op.TheVariants as op
-use Rattle.lab_lines.specs.declared.row.Answer.{Answer}
-use Rattle.lab_lines.specs.declared.row.Answer.TheVariants.{Failed}
-use Rattle.lab_run.specs.Client.{count_answer, done_answer}
 use Rattle.lab_run.specs.Reader.{call_answer, call_of}
 use Rattle.lab_run.proofs.CallParts.{IsSaying, Saying}
+use Rattle.snd_base.specs.declared.errors.PcmError.TheVariants as error
+use Rattle.pcm_states.specs.declared.calls.Call.TheVariants as call
+use Rattle.lab_lines.specs.declared.line.Op.TheVariants as op
 
 -- What is so of the parts of the calls of a reader, which begin in a world: `Looked` after the load of a read, `Read` after a read, `Counted` after a call that answers how
 -- many frames are available, and `Done` after another.

@@ -1,14 +1,9 @@
 -- What the calls of a reader do loads a position before it gets a frame.
-use Rattle.std.proofs.Common.{ℕ, ◌+◌, refl, Option, Some, None}
-use Rattle.std.specs.Prelude.{Bool, true, zero, suc, Ok, Err}
-use Rattle.mix_core.specs.declared.port.Position.{Position}
-use Rattle.pcm_states.specs.declared.calls.Call.{Call}
-use Rattle.snoop_core.specs.declared.port.Got.{Got}
-use Rattle.snoop_core.specs.declared.port.Got.TheVariants.{Whole, Overtaken, Stopped}
-use Rattle.course.specs.Course.{Course, ends}
-use Rattle.dsnoop_client.specs.declared.stream.CaptureStream.{CaptureStream}
-use Rattle.dsnoop_client.specs.Calls.{Answered, read_after, after_start, after_sync, taken_of}
-use Rattle.dsnoop_client.specs.Course.{get_on, gets_frames, one_more, starts, syncs, transfer_on, transfers}
+use Rattle.lab_run.specs.Prelude.{None, Option, refl, Some, ℕ, ◌+◌, Bool, Err, Ok, suc, true, zero, Call, Position, Got, Overtaken, Course, ends, CaptureStream}
+use Rattle.lab_run.specs.Prelude.{read_after, get_on, gets_frames, transfer_on, transfers}
+use Rattle.snoop_core.specs.declared.port.Got.TheVariants.{Whole, Stopped}
+use Rattle.dsnoop_client.specs.Calls.{Answered, after_start, after_sync, taken_of}
+use Rattle.dsnoop_client.specs.Course.{one_more, starts, syncs}
 use Rattle.lab_run.proofs.Leads.{Led, LoadsFirst, OkLed, first-then, is_loaded, on-ok}
 
 pub starts-led : (c : CaptureStream) (call : Call) (loaded : Bool) → Led OkLed loaded (starts c call)

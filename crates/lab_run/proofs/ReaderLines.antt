@@ -1,34 +1,19 @@
 -- A reader's line, as the reader did it at its port, is a part of that reader.
-use Rattle.std.proofs.Common.{◌≡◌, ℕ, refl, sym, ◌∙◌, ap, subst}
-use Rattle.std.specs.Prelude.{false, List, Option, Some, Result, Ok}
-use Rattle.snd_base.specs.declared.errors.PcmError.{PcmError}
-use Rattle.snd_base.specs.declared.geometry.Geometry.{Geometry}
-use Rattle.snd_base.specs.Relations.{Composes}
-use Rattle.mix_core.specs.declared.gate.Gate as gates
-use Rattle.snoop_core.specs.declared.port.Frame.{Frame}
-use Rattle.snoop_core.specs.declared.port.SnoopPort as snoopport
+use Rattle.lab_run.specs.Prelude.{ap, Option, refl, Some, subst, sym, ℕ, ◌∙◌, ◌≡◌, false, List, Ok, Result, PcmError, Geometry, Composes, Prepared, Frame}
+use Rattle.lab_run.specs.Prelude.{GetsAtSnoop, LoadsAtSnoop, NoLay, TakesAtSnoop, Course, ends, Takes, ◌>>=◌, Takes-map, CaptureStream, in_state, Op, Answer}
+use Rattle.lab_run.specs.Prelude.{DoesGet, DoesLay, DoesLoad, Doing, Alike, SameAnswer, count_answer, dies_if, done_answer, is_die, CountsDown, Reader}
+use Rattle.lab_run.specs.Prelude.{ReaderLinesAreParts, ReadsBy, AtPort}
+use Rattle.pcm_states.specs.declared.states.State.TheVariants.{Setup}
 use Rattle.snoop_core.specs.Port.{ShowsFrom}
-use Rattle.pcm_states.specs.declared.calls.Call.TheVariants as call
-use Rattle.pcm_states.specs.declared.states.State.TheVariants.{Prepared, Setup}
-use Rattle.course.specs.AtSnoopPort.{GetsAtSnoop, LoadsAtSnoop, NoLay, TakesAtSnoop}
-use Rattle.course.specs.Course.{◌>>=◌, Course, Takes, ends}
-use Rattle.course.specs.CourseLaws.{Takes-map}
-use Rattle.dsnoop_client.specs.declared.stream.CaptureStream.{CaptureStream}
-use Rattle.dsnoop_client.specs.Calls.{Answered, in_state}
-use Rattle.lab_lines.specs.declared.line.Op.{Op}
-use Rattle.lab_lines.specs.declared.line.Op.TheVariants as op
-use Rattle.lab_lines.specs.declared.row.Answer.{Answer}
-use Rattle.lab_run.specs.ActorPart.{DoesGet, DoesLay, DoesLoad, Doing}
-use Rattle.lab_run.specs.Alike.{Alike, SameAnswer}
-use Rattle.lab_run.specs.Client.{count_answer, dies_if, done_answer}
-use Rattle.lab_run.specs.ClientAtPort.{is_die}
-use Rattle.lab_run.specs.PortSteps.{CountsDown}
-use Rattle.lab_run.specs.Reader.{Reader, after_call, call_answer, begins, call_of, line_by, line_if}
-use Rattle.lab_run.specs.ReaderAtPort.{ReaderLinesAreParts, ReadsBy}
-use Rattle.lab_run.specs.Rules.{AtPort}
+use Rattle.dsnoop_client.specs.Calls.{Answered}
+use Rattle.lab_run.specs.Reader.{after_call, call_answer, begins, call_of, line_by, line_if}
 use Rattle.lab_run.proofs.AlikeLaws.{Alike-then}
 use Rattle.lab_run.proofs.ReadsAlike.{admitted-alike, at-once, reads-alike}
 use Rattle.lab_run.proofs.SnoopLaws.{course-part_snoop}
+use Rattle.mix_core.specs.declared.gate.Gate as gates
+use Rattle.snoop_core.specs.declared.port.SnoopPort as snoopport
+use Rattle.pcm_states.specs.declared.calls.Call.TheVariants as call
+use Rattle.lab_lines.specs.declared.line.Op.TheVariants as op
 
 answered-alike : {X : Type 0} (answer : Result X PcmError → Answer) (m n : Course (Answered X)) → Alike 0 (SameAnswer answer) m n
     → Alike 0 (λ x y. x ≡ y) (call_answer answer m) (call_answer answer n)

@@ -1,22 +1,14 @@
 -- Each call of a reader is like itself without its words.
-use Rattle.std.proofs.Common.{◌≡◌, ℕ, ◌+◌, refl, ap, Option, Some, None}
-use Rattle.std.specs.Prelude.{Bool, true, false, ◌&&◌, nat_eq, nat_le, nat_lt, zero, suc, Result, Ok, Err}
-use Rattle.snd_base.specs.declared.errors.PcmError.{PcmError}
-use Rattle.pcm_states.specs.declared.calls.Call.{Call}
-use Rattle.pcm_states.specs.declared.calls.Call.TheVariants as call
-use Rattle.pcm_stream.specs.declared.direction.Direction.TheVariants.{Capture}
-use Rattle.pcm_stream.specs.Status.{refusal_of}
-use Rattle.snoop_core.specs.declared.port.Got.{Got}
-use Rattle.snoop_core.specs.declared.port.Got.TheVariants.{Whole, Overtaken, Stopped}
-use Rattle.course.specs.Course.{Course, ends}
-use Rattle.dsnoop_client.specs.declared.stream.CaptureStream.{CaptureStream}
-use Rattle.dsnoop_client.specs.Calls.{Answered, read_after, after_start, after_sync, taken_of, with_avail}
-use Rattle.dsnoop_client.specs.Course.{if_admitted, admitted_by, avail_course, counts, gets_frames, one_more, read_course, reads_first, reads_on, starts, sync_course, syncs, transfer_on, transfers}
+use Rattle.lab_run.specs.Prelude.{ap, None, Option, refl, Some, ℕ, ◌+◌, ◌≡◌, Bool, Err, false, nat_eq, nat_le, nat_lt, Ok, Result, suc, true, zero, ◌&&◌}
+use Rattle.lab_run.specs.Prelude.{PcmError, Call, Capture, refusal_of, Got, Overtaken, Course, ends, CaptureStream, read_after, with_avail, avail_course}
+use Rattle.lab_run.specs.Prelude.{counts, gets_frames, read_course, reads_first, reads_on, transfer_on, transfers, Answer, Alike, ReadsAreAlike, SameAnswer}
+use Rattle.lab_run.specs.Prelude.{count_answer, done_answer}
+use Rattle.snoop_core.specs.declared.port.Got.TheVariants.{Whole, Stopped}
+use Rattle.dsnoop_client.specs.Calls.{Answered, after_start, after_sync, taken_of}
+use Rattle.dsnoop_client.specs.Course.{if_admitted, admitted_by, one_more, starts, sync_course, syncs}
 use Rattle.dsnoop_client.specs.View.{avail_of, is_running}
-use Rattle.lab_lines.specs.declared.row.Answer.{Answer}
-use Rattle.lab_run.specs.Alike.{Alike, ReadsAreAlike, SameAnswer}
-use Rattle.lab_run.specs.Client.{count_answer, done_answer}
 use Rattle.lab_run.proofs.AlikeLaws.{Alike-if, Alike-then, got_without_word}
+use Rattle.pcm_states.specs.declared.calls.Call.TheVariants as call
 
 -- how far frames were got, but for the word
 abbrev SameEnd : ℕ × Got → ℕ × Got → Type 0

@@ -1,38 +1,18 @@
 -- A report has no more segments than rows, and no more runs than rows.
-use Rattle.std.proofs.Common.{◌≡◌, ℕ, zero, suc, ◌+◌, ◌-◌, ◌≤◌, refl, sym, ◌∙◌, ap, subst, arith, Option, List, [], ◌∷◌, ◌++◌, length, map}
-use Rattle.std.proofs.lemmas.Bool.{eq-eqb}
-use Rattle.std.proofs.lemmas.List.{append-nil, length-append, length-map}
-use Rattle.std.specs.Prelude.{Bool, true, false, not, ◌&&◌, nat_eq, if◌then◌else◌, slice_index_or, slice_set}
-use Rattle.std.specs.List.{range_with_len}
-use Rattle.snd_base.specs.declared.errors.PcmError.TheVariants.{BadState, Stopped}
-use Rattle.snd_base.specs.declared.geometry.Geometry.{Geometry}
-use Rattle.snd_base.specs.declared.places.Segment.{Segment}
-use Rattle.wav_io.specs.Sound.{Sound}
-use Rattle.course.specs.Gives.{Gives-any}
-use Rattle.dmix_client.specs.declared.stream.PlaybackStream.{PlaybackStream}
-use Rattle.dmix_client.specs.Calls.{is_paused}
-use Rattle.dsnoop_client.specs.declared.stream.CaptureStream.{CaptureStream}
-use Rattle.lab_lines.specs.declared.line.Item.{Item}
-use Rattle.lab_lines.specs.declared.line.Line.{Line}
-use Rattle.lab_lines.specs.declared.line.Op.{Op}
-use Rattle.lab_lines.specs.declared.line.Op.TheVariants as op
-use Rattle.lab_lines.specs.Script.{is_of_card}
-use Rattle.lab_lines.specs.declared.row.Answer.{Answer}
-use Rattle.lab_lines.specs.declared.row.Answer.TheVariants.{Count, Done, Failed}
-use Rattle.lab_lines.specs.declared.row.Row.{Row}
-use Rattle.lab_run.specs.Client.{Client, ended_by, present_of, segments_of, stretch_of}
-use Rattle.lab_run.specs.Client as clients
-use Rattle.lab_run.specs.Items.{PhaseMay, ItemsMay, client_kinds, is_reader_stopped, is_stopped, no_sound, reader_kinds, reaped_client, reaped_client_if, reaped_reader, reaped_reader_if, rules_of}
-use Rattle.lab_run.specs.LabRun.{joined_runs, runs_of, with_numbers}
-use Rattle.lab_run.specs.Lines.{EachMay, Kind, LineMay, LinesMay}
-use Rattle.lab_run.specs.Phases.{card_rows, is_client, is_reader, ops_by}
-use Rattle.lab_run.specs.Reader.{Reader, frames_by}
-use Rattle.lab_run.specs.Reader as readers
+use Rattle.lab_run.specs.Prelude.{ap, arith, length, Option, refl, subst, sym, ℕ, ◌+◌, ◌-◌, ◌∙◌, ◌≡◌, ◌≤◌, eq-eqb, append-nil, length-append, length-map}
+use Rattle.lab_run.specs.Prelude.{range_with_len, Bool, false, if◌then◌else◌, List, map, nat_eq, not, slice_index_or, slice_set, suc, true, zero, [], ◌&&◌}
+use Rattle.lab_run.specs.Prelude.{◌++◌, ◌∷◌, BadState, Geometry, Segment, Gives-any, PlaybackStream, is_paused, CaptureStream, Sound, Item, Line, Op, Answer}
+use Rattle.lab_run.specs.Prelude.{Count, Done, Failed, Row, is_of_card, Client, ended_by, present_of, segments_of, stretch_of, client_kinds, is_reader_stopped}
+use Rattle.lab_run.specs.Prelude.{is_stopped, ItemsMay, no_sound, PhaseMay, reader_kinds, reaped_client, reaped_client_if, reaped_reader, reaped_reader_if}
+use Rattle.lab_run.specs.Prelude.{rules_of, joined_runs, runs_of, with_numbers, EachMay, Kind, LineMay, LinesMay, card_rows, is_client, is_reader, ops_by}
+use Rattle.lab_run.specs.Prelude.{frames_by, Reader, AtPort, Rules, first_stage, no_client, no_reader, Session, Stage}
+use Rattle.snd_base.specs.declared.errors.PcmError.TheVariants.{Stopped}
 use Rattle.lab_run.specs.ReportSize.{IsWithinRows}
-use Rattle.lab_run.specs.Rules.{AtPort, Rules}
-use Rattle.lab_run.specs.Stage.{Session, Stage, first_stage, no_client, no_reader}
-use Rattle.lab_run.proofs.EachLine.{client-line, reader-line}
 use Rattle.lab_run.proofs.BorderLaws.{OverItems, items-over}
+use Rattle.lab_run.proofs.EachLine.{client-line, reader-line}
+use Rattle.lab_lines.specs.declared.line.Op.TheVariants as op
+use Rattle.lab_run.specs.Client as clients
+use Rattle.lab_run.specs.Reader as readers
 
 -- ---- a part of a report that each actor has a list of
 

@@ -1,28 +1,16 @@
 -- What a call gives, as a report has it, doesn't depend on the word that a late sample found, nor on the client's member.
-use Rattle.std.proofs.Common.{◌≡◌, ℕ, List, [], ◌∷◌, refl, ap, sym, ◌∙◌, Option, Some, None}
-use Rattle.std.specs.Prelude.{Bool, true, false, ◌&&◌, nat_eq, nat_lt, if◌then◌else◌, Result, Ok, Err}
-use Rattle.snd_base.specs.declared.errors.PcmError.{PcmError}
-use Rattle.snd_base.specs.declared.errors.XrunWhy.TheVariants as why
-use Rattle.snd_base.specs.declared.places.Cursor.{Cursor}
-use Rattle.mix_core.specs.declared.port.Ended.{Ended}
-use Rattle.mix_core.specs.declared.port.Ended.TheVariants.{Whole, Late, Stopped}
-use Rattle.mix_core.specs.declared.port.Position.{Position}
-use Rattle.pcm_states.specs.declared.states.State.{State}
-use Rattle.pcm_states.specs.declared.states.State.TheVariants.{Prepared, Running}
-use Rattle.pcm_states.specs.declared.calls.Call.{Call}
-use Rattle.pcm_states.specs.declared.calls.Call.TheVariants as call
+use Rattle.lab_run.specs.Prelude.{ap, None, Option, refl, Some, sym, ℕ, ◌∙◌, ◌≡◌, Bool, Err, false, if◌then◌else◌, List, nat_eq, nat_lt, Ok, Result, true, []}
+use Rattle.lab_run.specs.Prelude.{◌&&◌, ◌∷◌, PcmError, Cursor, Call, State, Prepared, Running, already, call_row, Cell, cell_outcome, done_in, draining, ebadfd}
+use Rattle.lab_run.specs.Prelude.{eio, enodev, filling, first_outcome, if_empty, if_gone, if_none_left, if_over, moving, next_of, resuming, starting}
+use Rattle.lab_run.specs.Prelude.{stopped_by, to, Ended, Late, Stopped, Whole, Position, Commit, PlaybackStream, accepted_if, after_resume, after_start}
+use Rattle.lab_run.specs.Prelude.{after_sync, Answered, committed_by, end_channel, end_of_commit, facts_of, found_at, going_on, going_on_by, over_of, seen_at}
+use Rattle.lab_run.specs.Prelude.{taken_of, with_accepted, with_new_base, with_number, with_outcome, written_after, after_rewind, avail_of, SameButMember}
+use Rattle.lab_run.specs.Prelude.{count_answer, done_answer, with_member}
 use Rattle.pcm_states.specs.declared.calls.Facts.{Facts}
 use Rattle.pcm_states.specs.declared.calls.Outcome.{Outcome}
-use Rattle.pcm_states.specs.Table.{Cell, already, done_in, draining, ebadfd, eio, enodev, filling, first_outcome, if_empty, if_gone, if_none_left, if_over, moving, next_of, cell_outcome, resuming, call_row, starting, stopped_by, to}
-use Rattle.dmix_client.specs.declared.commit.Commit.{Commit}
-use Rattle.dmix_client.specs.declared.stream.PlaybackStream.{PlaybackStream}
-use Rattle.dmix_client.specs.Calls.{Answered, with_accepted, accepted_if, committed_by, end_channel, end_of_commit, facts_of, found_at, going_on, going_on_by, over_of, with_new_base, after_resume, seen_at, with_outcome, after_start, after_sync, taken_of, with_number, written_after}
-use Rattle.dmix_client.specs.Rewind.{after_rewind}
-use Rattle.dmix_client.specs.View.{avail_of}
-use Rattle.lab_run.specs.Alike.{SameButMember}
-use Rattle.lab_run.specs.Client.{count_answer, done_answer}
-use Rattle.lab_run.specs.Members.{with_member}
 use Rattle.lab_run.proofs.AlikeLaws.{without_word}
+use Rattle.snd_base.specs.declared.errors.XrunWhy.TheVariants as why
+use Rattle.pcm_states.specs.declared.calls.Call.TheVariants as call
 
 -- two outcomes leave the same state, and are answered alike in a report
 record SameOutcome (o u : Outcome) : Type 0 where

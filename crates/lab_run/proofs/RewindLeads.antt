@@ -1,19 +1,9 @@
 -- What a rewind of a client does loads a position before it withdraws anything.
-use Rattle.std.proofs.Common.{◌≡◌, ℕ, ◌+◌, refl, Option, Some, None}
-use Rattle.std.specs.Prelude.{Bool, true, List, ℤ, zero, suc, min, length, Ok, Err, ◌-◌}
-use Rattle.snd_base.specs.declared.places.Cursor.{Cursor}
-use Rattle.mix_core.specs.declared.port.Ended.{Ended}
-use Rattle.mix_core.specs.declared.port.Ended.TheVariants.{Whole, Late, Stopped}
-use Rattle.mix_core.specs.declared.port.Position.{Position}
-use Rattle.pcm_states.specs.declared.calls.Call.TheVariants as call
-use Rattle.course.specs.Course.{Course, ends}
-use Rattle.dmix_client.specs.declared.commit.Commit.{Commit}
-use Rattle.dmix_client.specs.declared.stream.PlaybackStream.{PlaybackStream}
-use Rattle.dmix_client.specs.Calls.{Answered, after_sync}
-use Rattle.dmix_client.specs.Course.{nothing}
-use Rattle.dmix_client.specs.Rewind.{back_of, back_on, checks, rewind_on, rewindable_of, after_rewind, take_each, take_frames, take_on, takes_back}
-use Rattle.dmix_client.specs.View.{ring_sample}
+use Rattle.lab_run.specs.Prelude.{length, None, Option, refl, Some, ℕ, ◌+◌, ◌-◌, ◌≡◌, Bool, Err, List, min, Ok, suc, true, zero, ℤ, Cursor, Ended, Late}
+use Rattle.lab_run.specs.Prelude.{Stopped, Whole, Position, Course, ends, Commit, PlaybackStream, after_sync, Answered, nothing, after_rewind, back_of, back_on}
+use Rattle.lab_run.specs.Prelude.{checks, rewind_on, rewindable_of, take_each, take_frames, take_on, takes_back, ring_sample}
 use Rattle.lab_run.proofs.Leads.{Anything, IsLed, Led, Led-then, LoadsFirst, OkLed, is_loaded, on-ok}
+use Rattle.pcm_states.specs.declared.calls.Call.TheVariants as call
 
 pub checks-led : (c : PlaybackStream) (loaded : Bool) → Led OkLed loaded (checks c)
 unfolding checks

@@ -1,12 +1,6 @@
 -- The rows of a run only grow.
-use Rattle.std.proofs.Common.{◌≡◌, ◌+◌, refl, sym, ◌∙◌, ap, List, [], ◌∷◌, ◌++◌}
-use Rattle.std.proofs.lemmas.List.{append_assoc, append-nil}
-use Rattle.lab_lines.specs.declared.line.Item.{Item}
-use Rattle.lab_lines.specs.Script.{is_of_card}
-use Rattle.lab_lines.specs.declared.row.Row.{Row}
-use Rattle.lab_run.specs.Items.{ItemsMay}
-use Rattle.lab_run.specs.Phases.{card_rows, ops_by}
-use Rattle.lab_run.specs.Stage.{Session, Stage}
+use Rattle.lab_run.specs.Prelude.{ap, refl, sym, ◌+◌, ◌∙◌, ◌≡◌, append-nil, append_assoc, List, [], ◌++◌, ◌∷◌, Item, Row, is_of_card, ItemsMay, card_rows}
+use Rattle.lab_run.specs.Prelude.{ops_by, Session, Stage}
 use Rattle.lab_run.proofs.BorderLaws.{OverItems, items-over}
 
 -- the rows of a stage, and more

@@ -1,25 +1,14 @@
 -- Each script has a run: the one in which no phase is left a choice.
-use Rattle.std.proofs.Common.{◌≡◌, ℕ, ◌≤◌, ◌+◌, refl, sym, arith, inl, inr, Option}
-use Rattle.std.specs.Prelude.{List, [], ◌∷◌, Contains, map, slice_set, zero, suc, slice_index_or}
-use Rattle.snd_base.specs.declared.geometry.Geometry.{Geometry}
-use Rattle.std.proofs.lemmas.List.Sums.{sum_by-cons}
-use Rattle.std.proofs.lemmas.List.Elements.{Contains-append_left, Contains-append_right, Contains-append_cases}
-use Rattle.wav_io.specs.Sound.{Sound}
-use Rattle.lab_lines.specs.declared.line.Actor.{Actor}
-use Rattle.lab_lines.specs.declared.line.Item.{Item}
-use Rattle.lab_lines.specs.declared.line.Item.TheVariants as item
-use Rattle.lab_lines.specs.declared.line.Line.{Line}
-use Rattle.lab_lines.specs.Script.{first_frame}
-use Rattle.lab_run.specs.Client.{Client}
-use Rattle.lab_run.specs.Items.{ItemsMay, PhaseMay, client_kinds, clients_text, items_text, phase_text, reader_kinds, readers_text, reaped_client, reaped_reader, rules_of}
-use Rattle.lab_run.specs.LabRun.{AreWithin, LabRun, lab_text}
-use Rattle.lab_run.specs.Phases.{is_client, is_reader, on_the_way, ops_by, played_at, played_in, phase_positions}
-use Rattle.lab_run.specs.Reader.{Reader}
-use Rattle.lab_run.specs.Rules.{AtPort, Rules}
-use Rattle.lab_run.specs.Stage.{Session, Setup, Stage, after_close, after_open, first_stage, no_client, no_reader}
-use Rattle.lab_run.proofs.EachLaws.{AreBehind, EachExist, IsPublished, behind-map, each-exist, reaped_client-keeps, reaped_reader-keeps}
+use Rattle.lab_run.specs.Prelude.{arith, inl, inr, Option, refl, sym, ℕ, ◌+◌, ◌≡◌, ◌≤◌, Contains-append_cases, Contains-append_left, Contains-append_right}
+use Rattle.lab_run.specs.Prelude.{sum_by-cons, Contains, List, map, slice_index_or, slice_set, suc, zero, [], ◌∷◌, Geometry, Sound, Actor, Item, Line}
+use Rattle.lab_run.specs.Prelude.{first_frame, Client, client_kinds, clients_text, items_text, ItemsMay, phase_text, PhaseMay, reader_kinds, readers_text}
+use Rattle.lab_run.specs.Prelude.{reaped_client, reaped_reader, rules_of, AreWithin, lab_text, LabRun, is_client, is_reader, on_the_way, ops_by}
+use Rattle.lab_run.specs.Prelude.{phase_positions, played_at, played_in, Reader, AtPort, Rules, after_close, after_open, first_stage, no_client, no_reader}
+use Rattle.lab_run.specs.Prelude.{Session, Setup, Stage}
 use Rattle.lab_run.proofs.ActorKinds.{client-IsKind, reader-IsKind}
 use Rattle.lab_run.proofs.BorderLaws.{Border, close-by, open-by}
+use Rattle.lab_run.proofs.EachLaws.{AreBehind, EachExist, IsPublished, behind-map, each-exist, reaped_client-keeps, reaped_reader-keeps}
+use Rattle.lab_lines.specs.declared.line.Item.TheVariants as item
 
 -- an actor saw no position past one, and of the stops by its own gate a fact holds
 record IsActorBehind (Q : ℕ → Type 0) (p : ℕ) (a : AtPort) : Type 0 where

@@ -1,23 +1,14 @@
 -- A script without a mixed phase, in which no actor's own gate stops it, has one run.
-use Rattle.std.proofs.Common.{◌≡◌, ℕ, ◌+◌, refl, ◌∙◌, ap, arith, inl, inr, ◌⊎◌, Option}
-use Rattle.std.specs.Prelude.{false, List, [], ◌∷◌, ⊤, map, slice_set, zero, suc, slice_index_or}
-use Rattle.wav_io.specs.Sound.{Sound}
-use Rattle.lab_lines.specs.declared.line.Item.{Item}
-use Rattle.lab_lines.specs.declared.line.Item.TheVariants as item
-use Rattle.lab_lines.specs.declared.line.Line.{Line}
-use Rattle.lab_lines.specs.Script.{is_mixed}
-use Rattle.lab_run.specs.Client.{Client}
-use Rattle.lab_run.specs.CourseText.{IsStill}
-use Rattle.lab_run.specs.Items.{ItemMay, ItemsMay, PhaseMay, client_kinds, clients_text, item_text, items_text, phase_end, phase_text, reader_kinds, readers_text, reaped_client, reaped_reader, rules_of}
-use Rattle.lab_run.specs.LabRun.{AreWithin, LabRun, Outcome, lab_text, outcome_of}
-use Rattle.lab_run.specs.Phases.{AreUnmixed, IsUnmixedItem, is_client, is_reader, ops_by}
-use Rattle.lab_run.specs.Reader.{Reader}
-use Rattle.lab_run.specs.Rules.{AtPort}
-use Rattle.lab_run.specs.Stage.{Session, Setup, Stage, first_stage, no_client, no_reader}
-use Rattle.lab_run.proofs.EachLaws.{NoneStopped, StopsGrow, each-grow, each-only, grow-map, grow-refl, grow-then, none-between, reaped_client-keeps, reaped_reader-keeps}
+use Rattle.lab_run.specs.Prelude.{ap, arith, inl, inr, Option, refl, ℕ, ◌+◌, ◌∙◌, ◌≡◌, ◌⊎◌, false, List, map, slice_index_or, slice_set, suc, zero, [], ⊤, ◌∷◌}
+use Rattle.lab_run.specs.Prelude.{Sound, Item, Line, is_mixed, Client, IsStill, client_kinds, clients_text, item_text, ItemMay, items_text, ItemsMay, phase_end}
+use Rattle.lab_run.specs.Prelude.{phase_text, PhaseMay, reader_kinds, readers_text, reaped_client, reaped_reader, rules_of, AreWithin, lab_text, LabRun}
+use Rattle.lab_run.specs.Prelude.{Outcome, outcome_of, AreUnmixed, is_client, is_reader, IsUnmixedItem, ops_by, Reader, AtPort, first_stage, no_client}
+use Rattle.lab_run.specs.Prelude.{no_reader, Session, Setup, Stage}
 use Rattle.lab_run.proofs.ActorKinds.{client-IsKind, reader-IsKind}
-use Rattle.lab_run.proofs.Still.{Unmixed, idle_phase, still_phase, unmixed}
 use Rattle.lab_run.proofs.BorderLaws.{OverItems, item-over, items-over}
+use Rattle.lab_run.proofs.EachLaws.{NoneStopped, StopsGrow, each-grow, each-only, grow-map, grow-refl, grow-then, none-between, reaped_client-keeps, reaped_reader-keeps}
+use Rattle.lab_run.proofs.Still.{Unmixed, idle_phase, still_phase, unmixed}
+use Rattle.lab_lines.specs.declared.line.Item.TheVariants as item
 
 -- ---- stops are never taken back
 

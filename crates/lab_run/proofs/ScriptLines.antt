@@ -1,21 +1,11 @@
 -- The lines of a script that keeps its limits: only the card plays, and no line of a phase opens an actor.
-use Rattle.std.proofs.Common.{◌≡◌, ℕ, refl, arith, List, [], ◌∷◌, ◌++◌}
-use Rattle.std.proofs.lemmas.List.Elements.{All-head, All-tail}
-use Rattle.std.proofs.lemmas.List.Sums.{sum_by-cons}
-use Rattle.std.specs.Prelude.{Bool, true, false, All, if◌then◌else◌}
-use Rattle.lab_lines.specs.declared.line.Actor.{Actor}
-use Rattle.lab_lines.specs.declared.line.Actor.TheVariants.{Card, Client, Reader}
-use Rattle.lab_lines.specs.declared.line.Item.{Item}
-use Rattle.lab_lines.specs.declared.line.Item.TheVariants as item
-use Rattle.lab_lines.specs.declared.line.Line.{Line}
-use Rattle.lab_lines.specs.declared.line.Op.{Op}
-use Rattle.lab_lines.specs.declared.line.Op.TheVariants as op
-use Rattle.lab_lines.specs.declared.script.Script.{Script}
-use Rattle.lab_lines.specs.Limits.{IsItem, IsLine, IsOpOf, IsScript}
-use Rattle.lab_lines.specs.Script.{is_of_card, played_by}
-use Rattle.lab_lines.specs.Script as script_words
+use Rattle.lab_run.specs.Prelude.{arith, refl, ℕ, ◌≡◌, All-head, All-tail, sum_by-cons, All, Bool, false, if◌then◌else◌, List, true, [], ◌++◌, ◌∷◌, Actor, Card}
+use Rattle.lab_run.specs.Prelude.{Item, Line, Op, Script, IsItem, IsLine, IsOpOf, IsScript, is_of_card, played_by, ops_by, played_at, played_in}
+use Rattle.lab_lines.specs.declared.line.Actor.TheVariants.{Client, Reader}
 use Rattle.lab_run.specs.OwnRows.{HaveLines, NoneOpen, is_opening}
-use Rattle.lab_run.specs.Phases.{ops_by, played_at, played_in}
+use Rattle.lab_lines.specs.declared.line.Item.TheVariants as item
+use Rattle.lab_lines.specs.declared.line.Op.TheVariants as op
+use Rattle.lab_lines.specs.Script as script_words
 
 -- what an actor can be asked for opens nothing
 none-opens : (actor : Actor) (asked : Op) → IsOpOf actor asked → is_opening asked ≡ false

@@ -1,29 +1,18 @@
 -- A stage of a run is where its script has it, and what a phase allows is what the script has of that phase.
-use Rattle.std.proofs.Common.{◌≡◌, ℕ, ◌+◌, ◌-◌, ◌*◌, ◌<◌, ◌≤◌, refl, sym, ◌∙◌, ap, subst, arith, inl, inr, ◌⊎◌, List, [], ◌∷◌, ◌++◌, length, take}
+use Rattle.lab_run.specs.Prelude.{ap, arith, inl, inr, length, refl, subst, sym, take, ℕ, ◌*◌, ◌+◌, ◌-◌, ◌/◌, ◌<◌, ◌∙◌, ◌≡◌, ◌≤◌, ◌⊎◌, cases_eq, cases_lt}
+use Rattle.lab_run.specs.Prelude.{eq-eqb, eqb-true, length-append, All-head, All-tail, All-take, Contains-append_right, sum_by-append, sum_by-cons, list_any}
+use Rattle.lab_run.specs.Prelude.{range_with_len, All, Bool, Contains, false, filter, if◌then◌else◌, List, slice_index_or, suc, true, zero, [], ◌%◌, ◌++◌, ◌==◌}
+use Rattle.lab_run.specs.Prelude.{◌||◌, ◌∷◌, Sound, Actor, Item, Line, Script, IsItem, IsLine, first_frame, frames_played, IsCardPosition, phase_at, phases_of}
+use Rattle.lab_run.specs.Prelude.{position_after_phases, unplugs, ItemsMay, on_the_way, phase_positions, played_at, played_in, published_by, first_stage}
+use Rattle.lab_run.specs.Prelude.{Session, Stage}
 use Rattle.std.proofs.Math.Nat.{mul-mod_left}
 use Rattle.std.proofs.Math.Seq.{get_or-append_seam, take-append-add, take-append_seam, take-length}
-use Rattle.std.proofs.lemmas.Bool.{cases_eq, cases_lt, eq-eqb, eqb-true}
 use Rattle.std.proofs.lemmas.Nat.{div-add-mod'}
-use Rattle.std.proofs.lemmas.List.{length-append}
-use Rattle.std.proofs.lemmas.List.Elements.{All-head, All-tail, All-take, Contains-append_right}
-use Rattle.std.proofs.lemmas.List.Sums.{sum_by-cons, sum_by-append}
-use Rattle.std.specs.Prelude.{Bool, true, false, ◌||◌, ◌/◌, ◌%◌, ◌==◌, if◌then◌else◌, zero, suc, All, Contains, filter, slice_index_or}
-use Rattle.std.specs.List.{list_any, range_with_len}
-use Rattle.wav_io.specs.Sound.{Sound}
-use Rattle.lab_lines.specs.declared.line.Actor.{Actor}
-use Rattle.lab_lines.specs.declared.line.Item.{Item}
-use Rattle.lab_lines.specs.declared.line.Item.TheVariants as item
-use Rattle.lab_lines.specs.declared.line.Line.{Line}
-use Rattle.lab_lines.specs.declared.script.Script.{Script}
-use Rattle.lab_lines.specs.Limits.{IsItem, IsLine}
-use Rattle.lab_lines.specs.Script.{IsCardPosition, first_frame, frames_played, phase_at, phases_of, position_after_phases, unplugs}
-use Rattle.lab_lines.specs.Script as script_words
-use Rattle.lab_run.specs.Items.{ItemsMay}
-use Rattle.lab_run.specs.Phases.{on_the_way, played_at, played_in, phase_positions, published_by}
 use Rattle.lab_run.specs.ScriptWords.{IsReached, PhasesAreOfScripts, StagesAreOfScripts}
-use Rattle.lab_run.specs.Stage.{Session, Stage, first_stage}
-use Rattle.lab_run.proofs.ScriptLines.{played_in-lines}
 use Rattle.lab_run.proofs.BorderLaws.{Border, close-by, open-by}
+use Rattle.lab_run.proofs.ScriptLines.{played_in-lines}
+use Rattle.lab_lines.specs.declared.line.Item.TheVariants as item
+use Rattle.lab_lines.specs.Script as script_words
 
 -- a stage with the card of another, and as many phases
 record HasCardOf (stage after : Stage) : Type 0 where

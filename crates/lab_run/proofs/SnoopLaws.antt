@@ -1,30 +1,17 @@
 -- A course that was taken at a port to captured frames and its gate is a part of an actor.
-use Rattle.std.proofs.Common.{◌≡◌, ℕ, zero, suc, ◌+◌, ◌<◌, ◌≤◌, ◌⊎◌, refl, sym, ◌∙◌, ap, subst, arith, inl, inr, Option, Some, None}
-use Rattle.std.proofs.lemmas.Bool.Decides.{nat_tests}
-use Rattle.std.specs.Prelude.{Bool, true, false, nat_le, List, [], ◌∷◌, replicate}
-use Rattle.snd_base.specs.declared.geometry.Geometry.{Geometry}
-use Rattle.snd_base.specs.Relations.{Composes, Composes-none_after}
-use Rattle.mix_core.specs.declared.gate.Gate as gates
-use Rattle.mix_core.specs.declared.gate.Pass.TheVariants.{Go, Stop}
-use Rattle.mix_core.specs.declared.gate.Pass.{Pass}
-use Rattle.mix_core.specs.declared.gate.StepKind.{StepKind}
-use Rattle.mix_core.specs.declared.gate.StepKind.TheVariants.{Look, Position}
-use Rattle.mix_core.specs.declared.port.Position as positions
-use Rattle.mix_core.specs.Laid.{without_last}
-use Rattle.snoop_core.specs.declared.port.Frame.{Frame}
-use Rattle.snoop_core.specs.declared.port.Got.{Got}
-use Rattle.snoop_core.specs.declared.port.Got.TheVariants as got
-use Rattle.snoop_core.specs.declared.port.SnoopPort as snoopport
+use Rattle.lab_run.specs.Prelude.{ap, arith, inl, inr, None, Option, refl, Some, subst, sym, ℕ, ◌+◌, ◌<◌, ◌∙◌, ◌≡◌, ◌≤◌, ◌⊎◌, nat_tests, Bool, false, List}
+use Rattle.lab_run.specs.Prelude.{nat_le, replicate, suc, true, zero, [], ◌∷◌, Geometry, Composes, Composes-none_after, Pass, Go, Stop, StepKind, Look}
+use Rattle.lab_run.specs.Prelude.{without_last, Frame, Got, GetsAtSnoop, LoadsAtSnoop, NoLay, TakesAtSnoop, Course, Takes, DoesGet, DoesLay, DoesLoad, Doing}
+use Rattle.lab_run.specs.Prelude.{Each, with_overtaken, with_position, Alike, IsFromOn, ask_count, CountsDown, IsAnswered, last_kind, with_gate, IsAtSnoop}
+use Rattle.lab_run.specs.Prelude.{AtPort, lets_pass, with_asks, with_stop}
+use Rattle.mix_core.specs.declared.gate.StepKind.TheVariants.{Position}
 use Rattle.snoop_core.specs.Port.{IsPast, ShowsFrom, SnoopView, frame_if, numbered_frame}
-use Rattle.course.specs.AtSnoopPort.{GetsAtSnoop, LoadsAtSnoop, NoLay, TakesAtSnoop}
-use Rattle.course.specs.Course.{Course, Takes}
-use Rattle.lab_run.specs.ActorPart.{DoesGet, DoesLay, DoesLoad, Doing, Each, with_overtaken, with_position}
-use Rattle.lab_run.specs.Alike.{Alike, IsFromOn}
-use Rattle.lab_run.specs.PortSteps.{CountsDown, IsAnswered, ask_count, last_kind, with_gate}
-use Rattle.lab_run.specs.ReaderAtPort.{IsAtSnoop}
-use Rattle.lab_run.specs.Rules.{AtPort, lets_pass, with_asks, with_stop}
 use Rattle.lab_run.proofs.AlikeLaws.{Takes-alike, got_without_word}
 use Rattle.lab_run.proofs.PortLaws.{Each-more, gate-same, no-asks}
+use Rattle.mix_core.specs.declared.gate.Gate as gates
+use Rattle.mix_core.specs.declared.port.Position as positions
+use Rattle.snoop_core.specs.declared.port.Got.TheVariants as got
+use Rattle.snoop_core.specs.declared.port.SnoopPort as snoopport
 
 -- each look is counted
 ask_count-looks : (n : ℕ) → ask_count (replicate n Look) ≡ n

@@ -1,16 +1,9 @@
 -- Where no phase is mixed none leaves a choice: the other actors have no lines in a phase in which the card has, and the card publishes
 -- nothing new in any other.
-use Rattle.std.proofs.Common.{◌≡◌, ℕ, ◌<◌, ◌+◌, refl, sym, ◌∙◌, arith, inl, inr, length}
-use Rattle.std.specs.Prelude.{Bool, false, not, if◌then◌else◌, List, [], ◌∷◌, ◌++◌, Contains, ⊤, slice_index_or, zero, suc}
-use Rattle.std.specs.List.{list_any}
-use Rattle.std.proofs.lemmas.Bool.{and_cases, or_parts}
-use Rattle.std.proofs.lemmas.List.Sums.{sum_by-cons}
-use Rattle.lab_lines.specs.declared.line.Actor.{Actor}
-use Rattle.lab_lines.specs.declared.line.Actor.TheVariants.{Card, Client, Reader}
-use Rattle.lab_lines.specs.declared.line.Line.{Line}
-use Rattle.lab_lines.specs.declared.line.Op.{Op}
-use Rattle.lab_lines.specs.Script.{is_card_line, is_mixed, is_of_card}
-use Rattle.lab_run.specs.Phases.{is_client, is_reader, on_the_way, ops_by, played_at, played_in, phase_positions, published_by}
+use Rattle.lab_run.specs.Prelude.{arith, inl, inr, length, refl, sym, ℕ, ◌+◌, ◌<◌, ◌∙◌, ◌≡◌, and_cases, or_parts, sum_by-cons, list_any, Bool, Contains, false}
+use Rattle.lab_run.specs.Prelude.{if◌then◌else◌, List, not, slice_index_or, suc, zero, [], ⊤, ◌++◌, ◌∷◌, Actor, Card, Line, Op, is_card_line, is_mixed}
+use Rattle.lab_run.specs.Prelude.{is_of_card, is_client, is_reader, on_the_way, ops_by, phase_positions, played_at, played_in, published_by}
+use Rattle.lab_lines.specs.declared.line.Actor.TheVariants.{Client, Reader}
 
 -- all positions of a list are one
 abbrev AreAll : ℕ → List ℕ → Type 0

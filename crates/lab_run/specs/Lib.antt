@@ -14,6 +14,7 @@ pub mod OwnRows
 pub mod Phases
 pub mod Places
 pub mod PortSteps
+pub mod Prelude
 pub mod Reader
 pub mod ReaderAtPort
 pub mod ReportSize

@@ -1,16 +1,10 @@
 -- A line that is checked in steps, with one check for some of them, is read as by all of them in turn.
-use Rattle.std.proofs.Common.{◌≡◌, ℕ, ◌+◌, List, [], ◌∷◌, ◌++◌, length, refl, ◌&&◌, ◌||◌, Bool, true, false, cond, is_some, nat_le, nat_lt, Result, Ok, Err}
-use Rattle.lab_script.specs.declared.error.ScriptWhy.{ScriptWhy}
+use Rattle.lab_script.specs.Prelude.{Bool, cond, Err, false, is_some, length, List, nat_le, nat_lt, Ok, refl, Result, true, ℕ, [], ◌&&◌, ◌++◌, ◌+◌, ◌||◌, ◌∷◌}
+use Rattle.lab_script.specs.Prelude.{◌≡◌, Actor, Op, is_name, is_of_card, is_unplug, played_by, ScriptWhy, refuse_if, word_and_rest, ◌>>=◌, actor_named}
+use Rattle.lab_script.specs.Prelude.{client_allowed, client_line, client_named, client_of, ends_lap, is_beside, line_allowed, reader_allowed, reader_line}
+use Rattle.lab_script.specs.Prelude.{reader_named, reader_of, State, with_line, file_of, keys_from, name_of, op_of}
 use Rattle.lab_script.specs.declared.error.ScriptWhy.TheVariants as why
 use Rattle.lab_script.specs.declared.keys.Kind.TheVariants as kind
-use Rattle.lab_lines.specs.declared.line.Actor.{Actor}
-use Rattle.lab_lines.specs.declared.line.Op.{Op}
-use Rattle.lab_script.specs.Causes.{◌>>=◌, refuse_if, word_and_rest}
-use Rattle.lab_script.specs.Draft.{State, client_of, client_named, client_allowed, client_line, reader_of, reader_named, reader_allowed, reader_line, line_allowed, with_line, actor_named, is_beside, ends_lap}
-use Rattle.lab_script.specs.Keys.{keys_from, name_of, file_of}
-use Rattle.lab_script.specs.Ops.{op_of}
-use Rattle.lab_lines.specs.Names.{is_name}
-use Rattle.lab_lines.specs.Script.{is_of_card, is_unplug, played_by}
 
 -- after a value, what follows may be said in another way
 same_after : {A B : Type 0} (r : Result A ScriptWhy) (f g : A → Result B ScriptWhy) → ((x : A) → f x ≡ g x) → (r >>= f) ≡ (r >>= g)

@@ -1,23 +1,14 @@
 -- The card, the clients, the readers and the ops of their lines are in their ranges.
-use Rattle.std.proofs.Common.{◌≡◌, ℕ, ◌/◌, ◌≤◌, ◌<◌, Bool, true, false, not, cond, List, [], ◌∷◌, length, refl, subst, arith, Option, Some, is_some, Ok, codes, bytes_eq, nat_le}
-use Rattle.std.proofs.lemmas.Bool.{leb-false}
-use Rattle.lab_script.specs.declared.error.ScriptWhy.TheVariants as why
-use Rattle.lab_script.specs.declared.keys.Kind.TheVariants as kind
-use Rattle.lab_lines.specs.declared.line.Actor.{Actor}
-use Rattle.lab_lines.specs.declared.line.Actor.TheVariants.{Card, Client, Reader}
-use Rattle.lab_lines.specs.declared.line.Op.{Op}
+use Rattle.lab_script.specs.Prelude.{arith, Bool, bytes_eq, codes, cond, false, is_some, length, List, nat_le, not, Ok, Option, refl, Some, subst, true, ℕ, []}
+use Rattle.lab_script.specs.Prelude.{◌/◌, ◌<◌, ◌∷◌, ◌≡◌, ◌≤◌, leb-false, row_of, Actor, Card, Client, Reader, Op, CardLine, ClientLine, ReaderLine, IsCardLine}
+use Rattle.lab_script.specs.Prelude.{IsClientLine, IsIn, IsOpOf, IsReaderLine, end_of, refuse_if, some_or, word_and_rest, actor_named, card_of, client_of}
+use Rattle.lab_script.specs.Prelude.{divides, reader_of, State, bindings_where, byte_given, file_of, file_where, keys_from, name_of, number_given, number_in}
+use Rattle.lab_script.specs.Prelude.{small_given, word_after, op_of, op_with, ops_of, with_count}
 use Rattle.lab_script.specs.declared.ops.Form.{Form}
 use Rattle.lab_script.specs.declared.ops.Form.TheVariants.{Plain, Counted}
-use Rattle.lab_lines.specs.declared.script.CardLine.{CardLine}
-use Rattle.lab_lines.specs.declared.script.ClientLine.{ClientLine}
-use Rattle.lab_lines.specs.declared.script.ReaderLine.{ReaderLine}
-use Rattle.lab_script.specs.Causes.{refuse_if, some_or, word_and_rest, end_of}
-use Rattle.lab_script.specs.Draft.{State, card_of, client_of, reader_of, actor_named, divides}
-use Rattle.text_words.specs.Table.{row_of}
-use Rattle.lab_script.specs.Keys.{number_in, keys_from, word_after, number_given, small_given, byte_given, name_of, file_of, file_where, bindings_where}
-use Rattle.lab_lines.specs.Limits.{IsIn, IsCardLine, IsClientLine, IsReaderLine, IsOpOf}
-use Rattle.lab_script.specs.Ops.{ops_of, with_count, op_with, op_of}
 use Rattle.lab_script.proofs.Ranges.{bind_ok, ok_to, not_refused, some_is, number_in-range, given_number, given_where, given_stop, limited_in, name_of-is, file_of-is, file_where-is, bindings_where-is, divides-half, divides-rest}
+use Rattle.lab_script.specs.declared.error.ScriptWhy.TheVariants as why
+use Rattle.lab_script.specs.declared.keys.Kind.TheVariants as kind
 
 -- the card of its line is in its ranges
 pub card_of-ranges : (number : ℕ) (ws : List (List ℕ)) (card : CardLine) → card_of number ws ≡ Ok card → IsCardLine card

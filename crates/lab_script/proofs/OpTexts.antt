@@ -1,8 +1,6 @@
 -- The text of an op is its word, and a number where it has one.
-use Rattle.std.proofs.Common.{◌≡◌, ℕ, List, ◌++◌, refl, ap, sym, ◌∙◌, append_assoc}
-use Rattle.lab_lines.specs.declared.line.Op.{Op}
+use Rattle.lab_script.specs.Prelude.{ap, append_assoc, List, refl, sym, ℕ, ◌++◌, ◌∙◌, ◌≡◌, Op, count_text, op_count, op_text, op_word}
 use Rattle.lab_lines.specs.declared.line.Op.TheVariants as op
-use Rattle.lab_script.specs.Ops.{op_word, op_count, count_text, op_text}
 
 op_text_parts : (o : Op) → op_text o ≡ op_word o ++ count_text (op_count o)
 op_text_parts (op.Play n) = refl

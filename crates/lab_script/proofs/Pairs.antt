@@ -1,16 +1,8 @@
 -- Tests over a list of references, products of numbers of 32 bits, and what is refused after a first word or line.
-use Rattle.std.proofs.Common.{◌≡◌, ℕ, ◌*◌, ◌≤◌, Bool, ◌||◌, List, [], ◌∷◌, ◌++◌, map, refl, ap, sym, ◌∙◌, arith, Some, Result, Ok}
-use Rattle.std.specs.List.{list_any}
-use Rattle.std.proofs.Math.Nat.{mul-le-mul_left}
-use Rattle.lab_script.specs.declared.error.ScriptError.{ScriptError}
-use Rattle.lab_script.specs.declared.error.ScriptWhy.{ScriptWhy}
+use Rattle.lab_script.specs.Prelude.{ap, arith, Bool, List, map, Ok, refl, Result, Some, sym, ℕ, [], ◌*◌, ◌++◌, ◌||◌, ◌∙◌, ◌∷◌, ◌≡◌, ◌≤◌, mul-le-mul_left}
+use Rattle.lab_script.specs.Prelude.{list_any, first_and_rest, ScriptError, ScriptWhy, Kind, Takes, Refuses, ◌>>=◌, key_value, keys_from, value_of, card_line}
+use Rattle.lab_script.specs.Prelude.{on_line, refusal_at, RefusesAt, script_of_lines}
 use Rattle.lab_script.specs.declared.error.ScriptWhy.TheVariants as why
-use Rattle.lab_script.specs.declared.keys.Kind.{Kind}
-use Rattle.lab_script.specs.declared.keys.Takes.{Takes}
-use Rattle.lab_script.specs.Causes.{◌>>=◌, Refuses}
-use Rattle.lab_script.specs.Keys.{keys_from, key_value, value_of}
-use Rattle.text_words.specs.Lexing.{first_and_rest}
-use Rattle.lab_script.specs.Reading.{refusal_at, on_line, card_line, script_of_lines, RefusesAt}
 
 -- a test over the values of a function
 pub list_any_map : {X Y : Type 0} (p : Y → Bool) (f : X → Y) (xs : List X) → list_any p (map f xs) ≡ list_any (λ x. p (f x)) xs

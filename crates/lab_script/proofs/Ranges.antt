@@ -1,22 +1,14 @@
 -- The ranges of what is given by keys, and the forms of names, files and bindings.
-use Rattle.std.proofs.Common.{◌≡◌, ℕ, ◌/◌, ◌%◌, ◌≤◌, Bool, true, false, not, cond, List, [], ◌∷◌, ◌++◌, refl, ap, subst, ◌∙◌, arith, Option, Some, None, option_map, Result, Ok, Err, codes, bytes_eq, nat_le}
+use Rattle.lab_script.specs.Prelude.{ap, arith, Bool, bytes_eq, codes, cond, Err, false, List, nat_le, None, not, Ok, Option, option_map, refl, Result, Some}
+use Rattle.lab_script.specs.Prelude.{subst, true, ℕ, [], ◌%◌, ◌++◌, ◌/◌, ◌∙◌, ◌∷◌, ◌≡◌, ◌≤◌, nat_tests, bytes_eq-Decides, row_of, number_of_word, IsBoundWhere}
+use Rattle.lab_script.specs.Prelude.{IsFileWhere, IsIn, IsInWhere, IsStopWhere, is_file, is_name, ScriptWhy, Kind, Takes, refuse_if, some_or, ◌>>=◌, divides}
+use Rattle.lab_script.specs.Prelude.{bindings_where, bound, check_of, file_of, file_where, key_value, keys_from, keys_of, name_of, number_given, number_in}
+use Rattle.lab_script.specs.Prelude.{number_or_zero, number_within, numbers_of, small_where, stop_given, stop_of, value_of, word_after}
 use Rattle.std.specs.Option.{option_map_or}
-use Rattle.std.proofs.lemmas.Bool.Decides.{nat_tests}
-use Rattle.std.proofs.lemmas.Slice.Eq.{bytes_eq-Decides}
-use Rattle.bindings.specs.Answers.{answer_of, or_first, entry_defects}
 use Rattle.snd_base.specs.declared.errors.Why.{Why}
-use Rattle.lab_script.specs.declared.error.ScriptWhy.{ScriptWhy}
+use Rattle.bindings.specs.Answers.{answer_of, or_first, entry_defects}
 use Rattle.lab_script.specs.declared.error.ScriptWhy.TheVariants as why
-use Rattle.lab_script.specs.declared.keys.Kind.{Kind}
-use Rattle.lab_script.specs.declared.keys.Takes.{Takes}
 use Rattle.lab_script.specs.declared.keys.Takes.TheVariants as takes
-use Rattle.lab_script.specs.Causes.{◌>>=◌, refuse_if, some_or}
-use Rattle.lab_script.specs.Draft.{divides}
-use Rattle.text_words.specs.Table.{row_of}
-use Rattle.lab_script.specs.Keys.{keys_of, key_value, keys_from, value_of, check_of, number_in, word_after, number_or_zero, number_given, number_within, small_where, stop_of, stop_given, name_of, file_of, file_where, bindings_where, bound, numbers_of}
-use Rattle.lab_lines.specs.Limits.{IsIn, IsInWhere, IsStopWhere, IsFileWhere, IsBoundWhere}
-use Rattle.lab_lines.specs.Names.{is_name, is_file}
-use Rattle.text_words.specs.Word.{number_of_word}
 
 -- what a value after a step says
 pub bind_ok : {A B : Type 0} (r : Result A ScriptWhy) (f : A → Result B ScriptWhy) (y : B) → (r >>= f) ≡ Ok y → (x : A) × (r ≡ Ok x) × (f x ≡ Ok y)

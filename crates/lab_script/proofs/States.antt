@@ -1,39 +1,29 @@
 -- What the lines that are read so far keep: ranges, names that differ, actors that there are, and the card's limits.
-use Rattle.std.proofs.Common.{Bool, Err, List, None, Ok, Option, Result, Some, [], ap, arith, cond, false, get_or, is_some, length, length-append, nat_le, nat_lt, not, option_map, refl, subst, suc, sym, true, zero, ℕ, ◌&&◌, ◌*◌, ◌++◌, ◌+◌, ◌<◌, ◌==◌, ◌||◌, ◌∙◌, ◌∷◌, ◌≡◌, ◌≢◌, ◌≤◌}
-use Rattle.std.specs.List.{All, AllPairs, list_any, position, position_or_len}
-use Rattle.std.proofs.Math.Nat.{mul-le-mul_right}
-use Rattle.std.proofs.lemmas.Bool.{leb-false, ltb-false, or_parts, or_right}
-use Rattle.std.proofs.lemmas.Bool.Decides.{nat_tests, not_from_Decides}
+use Rattle.lab_script.specs.Prelude.{ap, arith, Bool, cond, Err, false, get_or, is_some, length, length-append, List, nat_le, nat_lt, None, not, Ok, Option}
+use Rattle.lab_script.specs.Prelude.{option_map, refl, Result, Some, subst, suc, sym, true, zero, ℕ, [], ◌&&◌, ◌*◌, ◌++◌, ◌+◌, ◌<◌, ◌==◌, ◌||◌, ◌∙◌, ◌∷◌, ◌≡◌}
+use Rattle.lab_script.specs.Prelude.{◌≢◌, ◌≤◌, mul-le-mul_right, leb-false, ltb-false, or_parts, or_right, nat_tests, not_from_Decides, bytes_eq-Decides, All}
+use Rattle.lab_script.specs.Prelude.{AllPairs, list_any, position, position_or_len, row_of, Actor, Card, Client, Reader, CardLine, ClientLine, ReaderLine}
+use Rattle.lab_script.specs.Prelude.{IsActor, IsAlone, IsBorder, IsCardLine, IsClientLine, IsGoneAfter, IsItem, IsLine, IsReaderLine, IsScript, first_frame}
+use Rattle.lab_script.specs.Prelude.{frames_played, is_card_line, is_of_card, is_unplug, phases_of, played_by, played_in, unplugs, ScriptError, ScriptWhy}
+use Rattle.lab_script.specs.Prelude.{end_of, refuse_if, some_or, word_and_rest, actor_named, border_of, card_alone, client_of, ends_lap, inside, is_beside}
+use Rattle.lab_script.specs.Prelude.{is_client, is_reader, keywords, line_at, or_else, outside, reader_of, State, unknown_inside, unknown_outside, with_client}
+use Rattle.lab_script.specs.Prelude.{with_close, with_end, with_line, with_open, with_phase, with_reader, with_words, op_of, after, Answers, card_line}
+use Rattle.lab_script.specs.Prelude.{first_by, on_line, script_at, script_at_end, script_of_lines}
 use Rattle.std.proofs.lemmas.List.{append-nil}
 use Rattle.std.proofs.lemmas.List.Elements.{All-push, All-nil}
 use Rattle.std.proofs.lemmas.List.Folds.{list_any-append}
 use Rattle.std.proofs.lemmas.List.Quantifiers.{all_pairs_push}
 use Rattle.std.proofs.lemmas.List.Sums.{fails_before_first, sum_by_push}
-use Rattle.std.proofs.lemmas.Slice.Eq.{bytes_eq-Decides}
-use Rattle.lab_script.specs.declared.error.ScriptError.{ScriptError}
-use Rattle.lab_script.specs.declared.error.ScriptWhy.{ScriptWhy}
-use Rattle.lab_script.specs.declared.error.ScriptWhy.TheVariants as why
-use Rattle.lab_script.specs.declared.keyword.Keyword.{Keyword}
-use Rattle.lab_script.specs.declared.keyword.Keyword.TheVariants as keyword
-use Rattle.lab_lines.specs.declared.line.Actor.{Actor}
-use Rattle.lab_lines.specs.declared.line.Actor.TheVariants.{Card, Client, Reader}
-use Rattle.lab_lines.specs.declared.line.Item.{Item}
-use Rattle.lab_lines.specs.declared.line.Item.TheVariants as item
-use Rattle.lab_lines.specs.declared.line.Line.{Line}
-use Rattle.lab_lines.specs.declared.script.CardLine.{CardLine}
-use Rattle.lab_lines.specs.declared.script.ClientLine.{ClientLine}
-use Rattle.lab_lines.specs.declared.script.ReaderLine.{ReaderLine}
-use Rattle.lab_lines.specs.declared.script.Script.{Script}
-use Rattle.lab_script.specs.Causes.{refuse_if, some_or, word_and_rest, end_of}
-use Rattle.lab_script.specs.Draft.{State, card_alone, client_of, reader_of, border_of, actor_named, is_client, is_reader, or_else, is_beside, ends_lap, keywords, with_client, with_reader, with_open, with_close, with_phase, with_end, with_line, with_words, outside, inside, unknown_outside, unknown_inside, line_at}
-use Rattle.text_words.specs.Table.{row_of}
-use Rattle.lab_lines.specs.Limits.{IsCardLine, IsClientLine, IsReaderLine, IsBorder, IsActor, IsLine, IsAlone, IsItem, IsGoneAfter, IsScript}
-use Rattle.lab_script.specs.Ops.{op_of}
-use Rattle.lab_script.specs.Reading.{on_line, card_line, first_by, after, script_at_end, script_at, script_of_lines, Answers}
 use Rattle.std.specs.Result.{IfOk}
-use Rattle.lab_lines.specs.Script.{phases_of, played_in, frames_played, first_frame, is_card_line, is_of_card, is_unplug, unplugs, played_by}
-use Rattle.lab_script.proofs.Ranges.{bind_ok, ok_to, not_refused, some_is}
+use Rattle.lab_lines.specs.declared.line.Item.{Item}
+use Rattle.lab_lines.specs.declared.line.Line.{Line}
+use Rattle.lab_lines.specs.declared.script.Script.{Script}
+use Rattle.lab_script.specs.declared.keyword.Keyword.{Keyword}
 use Rattle.lab_script.proofs.Kept.{card_of-ranges, IsNewClient, client_of-ranges, IsNewReader, reader_of-ranges, op_of-is}
+use Rattle.lab_script.proofs.Ranges.{bind_ok, ok_to, not_refused, some_is}
+use Rattle.lab_script.specs.declared.error.ScriptWhy.TheVariants as why
+use Rattle.lab_script.specs.declared.keyword.Keyword.TheVariants as keyword
+use Rattle.lab_lines.specs.declared.line.Item.TheVariants as item
 
 -- whether a phase is open
 abbrev pub open_phases : Option ℕ → ℕ

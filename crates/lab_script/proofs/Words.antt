@@ -1,8 +1,5 @@
 -- Keywords are the words that no name is.
-use Rattle.std.proofs.Common.{◌≡◌, ℕ, Bool, true, false, List, refl, arith, Some, ◌||◌, Option, is_some, cond}
-use Rattle.lab_script.specs.Draft.{keywords}
-use Rattle.text_words.specs.Table.{row_of}
-use Rattle.lab_lines.specs.Names.{is_reserved}
+use Rattle.lab_script.specs.Prelude.{arith, Bool, cond, false, is_some, List, Option, refl, Some, true, ℕ, ◌||◌, ◌≡◌, row_of, is_reserved, keywords}
 
 -- whether a test's row is found, or a later one
 some_row : {A : Type 0} (b : Bool) (x : A) (later : Option A) → is_some (cond b (Some x) later) ≡ (b || is_some later)

@@ -1,20 +1,12 @@
 -- An attach: the load keeps the last frames, and so the choice of the seat.
-use Rattle.std.proofs.Common.{◌≡◌, ℕ, zero, suc, Bool, List, [], ◌∷◌, Option, None, Some, IsSome, Result, Ok, Err, cond, get_or, length, nat_lt, set, ap, refl, subst, sym, ◌∙◌}
-use Rattle.std.specs.List.{cons_option, filter_map, position, position_or_len}
-use Rattle.std.specs.Option.{is_some, option_and_then}
-use Rattle.std.proofs.lemmas.List.{append-nil, length-set}
+use Rattle.lobby.specs.Prelude.{ap, Bool, cond, Err, get_or, IsSome, length, List, nat_lt, None, Ok, Option, refl, Result, set, Some, subst, suc, sym, zero, ℕ}
+use Rattle.lobby.specs.Prelude.{[], ◌∙◌, ◌∷◌, ◌≡◌, append-nil, length-set, cons_option, filter_map, position, position_or_len, option_and_then, Position}
+use Rattle.lobby.specs.Prelude.{MixSeat, PlayerSeat, View, view_of, Lobby, HasLoaded, HasLoadedBeside, Attaches, free_seats, LoadsAt, Outcome, seen_of_lobby}
+use Rattle.lobby.specs.Prelude.{is_below, is_silent, IsLeast, KeepsLasts, last_of, lowest_free, seat_at}
 use Rattle.std.proofs.lemmas.List.Folds.{position_or_len-set}
+use Rattle.std.specs.Option.{is_some}
 use Rattle.snd_base.specs.declared.errors.PcmError.{PcmError}
-use Rattle.mix_core.specs.declared.port.Position.{Position}
-use Rattle.sum_table.specs.declared.seats.mix.MixSeat.{MixSeat}
-use Rattle.sum_table.specs.declared.seats.player.PlayerSeat.{PlayerSeat}
-use Rattle.sum_table.specs.declared.view.View.{View}
 use Rattle.sum_table.specs.Known.{last_frame}
-use Rattle.sum_table.specs.Seats.{view_of}
-use Rattle.lobby.specs.Loads.{HasLoaded, HasLoadedBeside}
-use Rattle.lobby.specs.declared.lobby.Lobby.{Lobby}
-use Rattle.lobby.specs.Lobbies.{Attaches, LoadsAt, Outcome, free_seats, seen_of_lobby}
-use Rattle.lobby.specs.Seats.{IsLeast, KeepsLasts, is_below, is_silent, last_of, lowest_free, seat_at}
 
 position-set : {X : Type 0} (p : X → Bool) (xs : List X) (i : ℕ) (y d : X) → p y ≡ p (get_or xs i d) → position p (set xs i y) ≡ position p xs
 position-set p xs i y d same =

@@ -1,11 +1,7 @@
 -- Where no free seat may be handed out.
-use Rattle.std.proofs.Common.{◌≡◌, ℕ, zero, suc, ◌+◌, ◌<◌, ◌≤◌, Bool, true, false, not, List, [], ◌∷◌, Option, None, Some, IsSome, cond, get_or, length, arith, ap, refl, sym, ◌∙◌}
-use Rattle.std.specs.List.{cons_option, position, prefix_len}
-use Rattle.std.proofs.lemmas.Bool.{false≢true}
-use Rattle.std.proofs.lemmas.Bool.Decides.{nat_tests}
-use Rattle.std.proofs.lemmas.Option.{none-some, same_Some}
-use Rattle.sum_table.specs.declared.seats.mix.MixSeat.{MixSeat}
-use Rattle.lobby.specs.Seats.{is_below, is_silent, last_frames, last_of, lowest_free, lowest_silent, seat_at}
+use Rattle.lobby.specs.Prelude.{ap, arith, Bool, cond, false, get_or, IsSome, length, List, None, not, Option, refl, Some, suc, sym, true, zero, ℕ, [], ◌+◌}
+use Rattle.lobby.specs.Prelude.{◌<◌, ◌∙◌, ◌∷◌, ◌≡◌, ◌≤◌, false≢true, nat_tests, none-some, same_Some, cons_option, position, prefix_len, MixSeat, is_below}
+use Rattle.lobby.specs.Prelude.{is_silent, last_frames, last_of, lowest_free, lowest_silent, seat_at}
 use Rattle.lobby.proofs.Placed.{has_value, lowest-found}
 
 -- a test that passes nowhere fails at each element

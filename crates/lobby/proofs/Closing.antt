@@ -1,15 +1,9 @@
 -- The seats of all places are joined, one after the other.
-use Rattle.std.proofs.Common.{◌≡◌, List, [], ◌∷◌, ◌++◌, Option, None, Some, is_some, true, get_or, length, append_assoc, arith, ap, refl, subst, sym, ◌∙◌}
-use Rattle.std.proofs.Math.Seq.{get_or-append_seam}
-use Rattle.std.proofs.lemmas.List.{append-nil, length-append, nil_from_length}
+use Rattle.lobby.specs.Prelude.{ap, append_assoc, arith, get_or, is_some, length, List, None, Option, refl, Some, subst, sym, true, [], ◌++◌, ◌∙◌, ◌∷◌, ◌≡◌}
+use Rattle.lobby.specs.Prelude.{get_or-append_seam, append-nil, length-append, nil_from_length, MixSeat, View, HasJoined, OneRing, key_of, places_of_seat}
+use Rattle.lobby.specs.Prelude.{ring_of, view_of, Lobby, base_of, free_seats, JoinsAll, JoinsEach, key_of_lobby, laid_by, laid_by_all, ring_of_lobby, AreFree}
+use Rattle.lobby.specs.Prelude.{IsPlace, seat_at}
 use Rattle.std.proofs.lemmas.Grind.{flat_map-append}
-use Rattle.sum_table.specs.declared.seats.mix.MixSeat.{MixSeat}
-use Rattle.sum_table.specs.declared.view.View.{View}
-use Rattle.sum_table.specs.Joins.{HasJoined, OneRing}
-use Rattle.sum_table.specs.Seats.{key_of, places_of_seat, ring_of, view_of}
-use Rattle.lobby.specs.declared.lobby.Lobby.{Lobby}
-use Rattle.lobby.specs.Lobbies.{JoinsAll, JoinsEach, base_of, free_seats, key_of_lobby, laid_by, laid_by_all, ring_of_lobby}
-use Rattle.lobby.specs.Seats.{AreFree, IsPlace, seat_at}
 
 -- some of the seats were joined, and the others are left
 pub record IsJoining (l : Lobby) (whole : MixSeat) (done left : List (Option MixSeat)) : Type 0 where

@@ -1,13 +1,8 @@
 -- The least of the last frames, as more seats are looked at.
-use Rattle.std.proofs.Common.{◌≡◌, ℕ, ◌+◌, ◌<◌, ◌≤◌, ◌^◌, All, List, [], ◌∷◌, ◌++◌, Option, None, Some, IfSome, MatchOption, add-one, get_or, length, min, take, arith, ap, refl, subst, sym, ◌∙◌, inl, inr}
-use Rattle.std.specs.List.{cons_option}
-use Rattle.std.specs.Option.{option_and_then, option_to_list}
-use Rattle.std.proofs.lemmas.Bool.{cases_lt}
-use Rattle.std.proofs.lemmas.List.{append-nil}
+use Rattle.lobby.specs.Prelude.{add-one, All, ap, arith, get_or, IfSome, inl, inr, length, List, MatchOption, min, None, Option, refl, Some, subst, sym, take}
+use Rattle.lobby.specs.Prelude.{ℕ, [], ◌++◌, ◌+◌, ◌<◌, ◌^◌, ◌∙◌, ◌∷◌, ◌≡◌, ◌≤◌, take-suc, cases_lt, append-nil, cons_option, option_and_then, option_to_list}
+use Rattle.lobby.specs.Prelude.{MixSeat, earlier, IsLeast, last_frames, last_of}
 use Rattle.std.proofs.lemmas.List.Elements.{All-push, Contains-append_left, Contains-push, filter_map-append}
-use Rattle.std.proofs.Math.Seq.{take-suc}
-use Rattle.sum_table.specs.declared.seats.mix.MixSeat.{MixSeat}
-use Rattle.lobby.specs.Seats.{IsLeast, earlier, last_frames, last_of}
 
 -- an answer is the least of some numbers, or none where there are none
 abbrev pub IsLeastOf : List ℕ → Option ℕ → Type 0

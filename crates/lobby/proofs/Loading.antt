@@ -1,12 +1,7 @@
 -- What a load leaves of a seat and of the player.
-use Rattle.std.proofs.Common.{◌≡◌, ℕ, ◌∙◌}
-use Rattle.mix_core.specs.declared.port.Position.{Position}
-use Rattle.sum_table.specs.declared.seats.mix.MixSeat.{MixSeat}
-use Rattle.sum_table.specs.declared.seats.player.PlayerSeat.{PlayerSeat}
+use Rattle.lobby.specs.Prelude.{ℕ, ◌∙◌, ◌≡◌, Position, MixSeat, PlayerSeat, IsLaterSeat, key_of, member_of, places_of_seat, ring_of, TableId, HasLoaded}
+use Rattle.lobby.specs.Prelude.{HasLoadedBeside, IsPlace}
 use Rattle.sum_table.specs.declared.view.Key.{Key}
-use Rattle.sum_table.specs.Seats.{IsLaterSeat, TableId, key_of, member_of, places_of_seat, ring_of}
-use Rattle.lobby.specs.Loads.{HasLoaded, HasLoadedBeside}
-use Rattle.lobby.specs.Seats.{IsPlace}
 
 -- a seat of the same ring, member and places is that of the place as well
 IsPlace-as : (ring : TableId) (key : Key) (place : ℕ) (s t : MixSeat) → ring_of t ≡ ring_of s → key_of t ≡ key_of s → member_of t ≡ member_of s → places_of_seat t ≡ places_of_seat s

@@ -1,15 +1,10 @@
 -- The seats of the places, as one is taken out or put back.
-use Rattle.std.proofs.Common.{◌≡◌, ℕ, ◌<◌, true, IfSome, List, Option, None, Some, length, get_or, set, arith, ap, refl, subst, sym, ◌∙◌, inl, inr}
-use Rattle.std.specs.Option.{is_some}
-use Rattle.std.proofs.lemmas.Bool.{cases_eq, false≢true}
-use Rattle.std.proofs.lemmas.Bool.Decides.{nat_tests}
-use Rattle.std.proofs.lemmas.Option.{none-some, same_Some}
-use Rattle.std.proofs.lemmas.List.{get_or_default, get_or-set_other, get_or-set_same}
+use Rattle.lobby.specs.Prelude.{ap, arith, get_or, IfSome, inl, inr, length, List, None, Option, refl, set, Some, subst, sym, true, ℕ, ◌<◌, ◌∙◌, ◌≡◌, cases_eq}
+use Rattle.lobby.specs.Prelude.{false≢true, nat_tests, get_or-set_other, get_or-set_same, get_or_default, none-some, same_Some, MixSeat, member_of, TableId}
+use Rattle.lobby.specs.Prelude.{ArePlaces, is_below, is_silent, IsPlace, last_of, lowest_free, lowest_silent, seat_at}
 use Rattle.std.proofs.lemmas.List.Quantifiers.{position-Some}
-use Rattle.sum_table.specs.declared.seats.mix.MixSeat.{MixSeat}
+use Rattle.std.specs.Option.{is_some}
 use Rattle.sum_table.specs.declared.view.Key.{Key}
-use Rattle.sum_table.specs.Seats.{TableId, member_of}
-use Rattle.lobby.specs.Seats.{ArePlaces, IsPlace, is_below, is_silent, last_of, lowest_free, lowest_silent, seat_at}
 
 -- where an option has a value
 pub has_value : {X : Type 0} (o : Option X) → is_some o ≡ true → (x : X) × (o ≡ Some x)

@@ -1,16 +1,8 @@
 -- A seat is split into seats of one place each.
-use Rattle.std.proofs.Common.{◌≡◌, ℕ, ◌+◌, ◌-◌, ◌<◌, List, [], ◌∷◌, ◌++◌, Option, None, Some, length, arith, ap, refl, subst, sym, ◌∙◌, inl, inr}
+use Rattle.lobby.specs.Prelude.{ap, arith, inl, inr, length, List, None, Option, refl, Some, subst, sym, ℕ, [], ◌++◌, ◌+◌, ◌-◌, ◌<◌, ◌∙◌, ◌∷◌, ◌≡◌, cases_lt}
+use Rattle.lobby.specs.Prelude.{get_or_append_left, get_or_push, length-append, none-some, same_Some, MixSeat, View, part_of, with_places, without_places}
+use Rattle.lobby.specs.Prelude.{HasSplit, KeepsSeat, key_of, places_of_seat, ring_of, view_of, IsSplitSeat, ArePlaces, IsPlace, seat_at}
 use Rattle.std.proofs.Math.ListN.{get_or-eq_default}
-use Rattle.std.proofs.lemmas.Bool.{cases_lt}
-use Rattle.std.proofs.lemmas.List.{get_or_append_left, get_or_push, length-append}
-use Rattle.std.proofs.lemmas.Option.{none-some, same_Some}
-use Rattle.sum_table.specs.declared.seats.mix.MixSeat.{MixSeat}
-use Rattle.sum_table.specs.declared.view.View.{View}
-use Rattle.sum_table.specs.Cuts.{part_of, with_places, without_places}
-use Rattle.sum_table.specs.Joins.{HasSplit, KeepsSeat}
-use Rattle.sum_table.specs.Seats.{key_of, places_of_seat, ring_of, view_of}
-use Rattle.lobby.specs.Lobbies.{IsSplitSeat}
-use Rattle.lobby.specs.Seats.{ArePlaces, IsPlace, seat_at}
 
 -- so many seats of one place were split off
 pub record IsSplitting (whole rest : MixSeat) (seats : List (Option MixSeat)) (n : ℕ) : Type 0 where

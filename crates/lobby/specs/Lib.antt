@@ -1,3 +1,4 @@
 pub mod Lobbies
 pub mod Loads
+pub mod Prelude
 pub mod Seats

@@ -1,27 +1,12 @@
 -- What each event does to the agreement of a core with what was placed and what was taken.
-use Rattle.std.proofs.Common.{◌≡◌, ℕ, ◌+◌, ◌<◌, ◌≤◌, Bool, false, ◌==◌, ◌&&◌, ◌||◌, List, [], ◌∷◌, ◌++◌, length, get_or, set, pos, ◌+ℤ◌, inl, inr, arith, subst, sym, refl, ap, ◌∙◌, nat_lt}
+use Rattle.mix_core.specs.Prelude.{ap, arith, Bool, false, get_or, inl, inr, length, List, nat_lt, pos, refl, set, subst, sym, ℕ, [], ◌&&◌, ◌++◌, ◌+ℤ◌, ◌+◌}
+use Rattle.mix_core.specs.Prelude.{◌<◌, ◌==◌, ◌||◌, ◌∙◌, ◌∷◌, ◌≡◌, ◌≤◌, add-div_right, cases_eq, nat_tests, get_or-set_other, get_or-set_same, length-append}
+use Rattle.mix_core.specs.Prelude.{length-set, All-push, Geometry, nat_lt-behind, next_word-suc, cursor_after, first_frame, first_free, lap, next_word}
+use Rattle.mix_core.specs.Prelude.{word_index, clamp_of, count_of, lap_of, StandsFor, StandsFor-fields, sum_of, Taken, Marks, Entry, is_taken, at, marks_after}
+use Rattle.mix_core.specs.Prelude.{marks_of, total, value_of, AreInOrder-more, at-more_elsewhere, at-more_here, is_taken-more, is_taken-none}
+use Rattle.mix_core.specs.Prelude.{total-more_elsewhere, total-more_here, marks_of-other, marks_of-own, IsNow, IsSound, Agrees, marks_at, View, word_at}
+use Rattle.mix_core.specs.Prelude.{IsNow-next, word_places, words-taken, words-written}
 use Rattle.std.proofs.Math.Bool.{or_comm}
-use Rattle.std.proofs.Math.Nat.{add-div_right}
-use Rattle.std.proofs.lemmas.Bool.Decides.{nat_tests}
-use Rattle.std.proofs.lemmas.List.{get_or-set_same, get_or-set_other, length-append, length-set}
-use Rattle.std.proofs.lemmas.List.Elements.{All-push}
-use Rattle.snd_base.specs.declared.geometry.Geometry.{Geometry}
-use Rattle.snd_base.specs.PlaceLaws.{next_word-suc, nat_lt-behind}
-use Rattle.snd_base.specs.Places.{cursor_after, first_frame, first_free, lap, next_word, word_index}
-use Rattle.lap_word.specs.Clamp.{clamp_of}
-use Rattle.lap_word.specs.Word.{StandsFor, StandsFor-fields, count_of, lap_of, sum_of}
-use Rattle.mix_core.specs.declared.port.Entry.{Entry}
-use Rattle.mix_core.specs.declared.event.Taken.{Taken}
-use Rattle.mix_core.specs.History.{is_taken}
-use Rattle.mix_core.specs.Laid.{at, marks_after, marks_of, total, value_of}
-use Rattle.mix_core.specs.declared.marks.Marks.{Marks}
-use Rattle.mix_core.specs.OwnLaws.{marks_of-other, marks_of-own}
-use Rattle.mix_core.specs.Sound.{IsNow, IsSound}
-use Rattle.mix_core.specs.Stands.{Agrees}
-use Rattle.mix_core.specs.View.{View, marks_at, word_at}
-use Rattle.mix_core.specs.MoreLaws.{AreInOrder-more, at-more_elsewhere, at-more_here, is_taken-more, is_taken-none, total-more_elsewhere, total-more_here}
-use Rattle.mix_core.specs.Written.{IsNow-next, word_places, words-taken, words-written}
-use Rattle.std.proofs.lemmas.Bool.{cases_eq}
 
 -- a core after the next word was taken, and after an entry was placed, with a new word there
 abbrev pub taken_view : View → ℕ → View

@@ -1,23 +1,10 @@
 -- A new core is sound, and represents the empty history.
-use Rattle.std.proofs.Common.{◌≡◌, ℕ, ◌+◌, ◌-◌, ◌*◌, ◌/◌, ◌<◌, ◌≤◌, false, [], pos, arith, subst, refl, ap, ◌∙◌}
+use Rattle.mix_core.specs.Prelude.{ap, arith, false, pos, refl, subst, ℕ, [], ◌*◌, ◌+◌, ◌-◌, ◌/◌, ◌<◌, ◌∙◌, ◌≡◌, ◌≤◌, nat_tests, get_or-replicate}
+use Rattle.mix_core.specs.Prelude.{length-replicate, All-replicate, Geometry, Cursor, word_index-lt, first_frame, first_free, lap, word_index, StandsFor, Marks}
+use Rattle.mix_core.specs.Prelude.{IsNew, first_frame-le, start_marks, AreWithin, IsNow, IsSound, RepresentsHistory, View, word_at}
 use Rattle.std.proofs.Math.ListN.{replicate}
-use Rattle.std.proofs.lemmas.Bool.Decides.{nat_tests}
-use Rattle.std.proofs.lemmas.List.{get_or-replicate, length-replicate}
-use Rattle.std.proofs.lemmas.List.Elements.{All-replicate}
 use Rattle.std.proofs.lemmas.Nat.{div-mul-add}
-use Rattle.snd_base.specs.declared.geometry.Geometry.{Geometry}
-use Rattle.snd_base.specs.declared.places.Cursor.{Cursor}
-use Rattle.snd_base.specs.Places.{first_frame, first_free, lap, word_index}
-use Rattle.lap_word.specs.Word.{StandsFor}
-use Rattle.mix_core.specs.Calls.{IsNew}
-use Rattle.mix_core.specs.LegalLaws.{first_frame-le}
-use Rattle.mix_core.specs.Sound.{AreWithin, IsNow, IsSound}
-use Rattle.mix_core.specs.declared.marks.Marks.{Marks}
-use Rattle.mix_core.specs.Marks.{start_marks}
-use Rattle.mix_core.specs.Stands.{RepresentsHistory}
-use Rattle.mix_core.specs.View.{View, word_at}
 use Rattle.mix_core.proofs.Soundness.{HoldsAtMost-empty}
-use Rattle.snd_base.specs.PlaceLaws.{word_index-lt}
 
 -- where everybody begins
 abbrev pub start : Geometry → Cursor

@@ -1,25 +1,11 @@
 -- Each event of a core appends its row to every history that the core represents.
-use Rattle.std.proofs.Common.{◌≡◌, ◌≢◌, ℕ, ◌+◌, ◌<◌, ◌≤◌, Bool, false, List, [], ◌∷◌, ◌++◌, length, ℤ, pos, ◌+ℤ◌, arith, subst, sym, refl, ap, ◌∙◌, nat_lt}
-use Rattle.std.proofs.lemmas.Bool.Decides.{nat_tests}
-use Rattle.std.proofs.lemmas.List.{length-set}
-use Rattle.std.proofs.lemmas.List.Sums.{fold_push}
-use Rattle.snd_base.specs.declared.places.Cursor.{Cursor}
-use Rattle.snd_base.specs.Places.{first_frame, first_free, lap}
-use Rattle.lap_word.specs.Clamp.{clamp_of}
-use Rattle.lap_word.specs.Word.{StandsFor, count_of, lap_of, sum_of}
-use Rattle.mix_core.specs.declared.event.Event.TheVariants.{Publish, Take}
-use Rattle.mix_core.specs.declared.event.Reply.TheVariants.{In, LapEnd, Published, Took}
-use Rattle.mix_core.specs.declared.port.Entry.{Entry}
-use Rattle.mix_core.specs.declared.event.Taken.{Taken}
-use Rattle.mix_core.specs.History.{IsReply, Row, entry_of, is_taken, laid_of, position_after, position_of, entry_row, taken_words, taking_of}
-use Rattle.mix_core.specs.Laid.{total, value_of}
+use Rattle.mix_core.specs.Prelude.{ap, arith, Bool, false, length, List, nat_lt, pos, refl, subst, sym, ℕ, ℤ, [], ◌++◌, ◌+ℤ◌, ◌+◌, ◌<◌, ◌∙◌, ◌∷◌, ◌≡◌, ◌≢◌, ◌≤◌}
+use Rattle.mix_core.specs.Prelude.{nat_tests, length-set, fold_push, Cursor, first_frame, first_free, lap, clamp_of, count_of, lap_of, StandsFor, sum_of}
+use Rattle.mix_core.specs.Prelude.{Publish, Take, In, LapEnd, Published, Took, Taken, Entry, entry_of, entry_row, is_taken, IsReply, laid_of, position_after}
+use Rattle.mix_core.specs.Prelude.{position_of, Row, taken_words, taking_of, total, value_of, IsLegal-more, filter_map-none, filter_map-some, IsNow, IsSound}
+use Rattle.mix_core.specs.Prelude.{Agrees, RepresentsHistory, View, word_at}
 use Rattle.mix_core.specs.HistoryLaws.{entry_of-row, position_after-row, taking_of-row}
-use Rattle.mix_core.specs.Sound.{IsNow, IsSound}
-use Rattle.mix_core.specs.Stands.{Agrees, RepresentsHistory}
-use Rattle.mix_core.specs.View.{View, word_at}
 use Rattle.mix_core.proofs.Agreement.{Agrees-laid, Agrees-published, Agrees-taken, Agrees-unplugged, laid_view, taken_view}
-use Rattle.mix_core.specs.LegalLaws.{IsLegal-more}
-use Rattle.mix_core.specs.MoreLaws.{filter_map-none, filter_map-some}
 
 -- a publication
 pub RepresentsHistory-published : (v : View) (h : List Row) → v.position ≤ v.next.frame → RepresentsHistory v h

@@ -1,28 +1,14 @@
 -- What the caller of an add or of a withdrawal shows, at the core's fields, and what it then does.
-use Rattle.std.proofs.Common.{◌≡◌, ℕ, ◌+◌, ◌<◌, ◌≤◌, List, inl, inr, length, get_or, set, slice_index, ℤ, pos, negsuc, ◌+ℤ◌, ◌-ℤ◌, ◌≤ℤ◌, subst, sym, refl, ap, arith}
-use Rattle.std.proofs.lemmas.Bool.{cases_eq, cases_lt}
-use Rattle.std.proofs.lemmas.Bool.Decides.{nat_tests}
-use Rattle.std.proofs.lemmas.Int.{ints}
-use Rattle.std.proofs.lemmas.List.{get_or-set_other, get_or-set_same, get_or_read, length-set, set_past}
-use Rattle.snd_base.specs.Places.{IsFrom, first_frame, first_free, lap, word_index}
-use Rattle.lap_word.specs.Word.{StandsFor, count_of, lap_of, sum_of}
-use Rattle.mix_core.specs.declared.marks.Marks.{Marks}
-use Rattle.mix_core.specs.declared.port.Entry.{Entry}
-use Rattle.mix_core.specs.declared.port.Kind.{Kind}
-use Rattle.mix_core.specs.declared.port.Kind.TheVariants.{Added, Withdrawn}
-use Rattle.mix_core.specs.Calls.{IsLaidBy}
-use Rattle.mix_core.specs.Laid.{marks_after, signed_sample, value_of}
-use Rattle.mix_core.specs.Port.{IsNotBefore}
+use Rattle.mix_core.specs.Prelude.{ap, arith, get_or, inl, inr, length, List, negsuc, pos, refl, set, slice_index, subst, sym, ℕ, ℤ, ◌+ℤ◌, ◌+◌, ◌-ℤ◌, ◌<◌, ◌≡◌}
+use Rattle.mix_core.specs.Prelude.{◌≤ℤ◌, ◌≤◌, cases_eq, cases_lt, nat_tests, ints, get_or-set_other, get_or-set_same, get_or_read, length-set, set_past, w16}
+use Rattle.mix_core.specs.Prelude.{SFits, suc-le-end_frame, first_frame, first_free, IsFrom, lap, word_index, count_of, lap_of, StandsFor, sum_of, Marks, Entry}
+use Rattle.mix_core.specs.Prelude.{Kind, Added, Withdrawn, IsLaidBy, marks_after, signed_sample, value_of, IsNotBefore, AreWithin, IsNow, IsSound, cursor_at}
+use Rattle.mix_core.specs.Prelude.{marks_at, View, word_at}
 use Rattle.mix_core.specs.PortLaws.{IsNotBefore-refl}
-use Rattle.mix_core.specs.Sound.{AreWithin, IsNow, IsSound}
-use Rattle.mix_core.specs.View.{View, cursor_at, marks_at, word_at}
 use Rattle.mix_core.proofs.Agreement.{laid_view}
 use Rattle.mix_core.proofs.History.{RepresentsHistory-laid, untaken-now}
 use Rattle.mix_core.proofs.Soundness.{AreWithin-added, AreWithin-withdrawn, HoldsMoreAt, holds-added, holds-withdrawn}
 use Rattle.mix_core.proofs.Words.{IsNow-of}
-use mir.Syntax.{w16}
-use mir.Val.{SFits}
-use Rattle.snd_base.specs.PlaceLaws.{suc-le-end_frame}
 
 pub record CanLay (v : View) (e : Entry) : Type 0 where
   pub member : e.member < length v.marks

@@ -1,26 +1,9 @@
 -- What a core does at an event is a reply to it after every history that the core represents.
-use Rattle.std.proofs.Common.{◌≡◌, ℕ, ◌+◌, ◌<◌, true, List, [], ◌∷◌, ◌++◌, length, subst, sym, refl, ap, ◌∙◌, append_assoc, arith}
-use Rattle.std.specs.List.{zip}
-use Rattle.std.proofs.lemmas.List.{append-nil, length-append}
-use Rattle.std.proofs.lemmas.List.Elements.{filter-append}
-use Rattle.snd_base.specs.Places.{IsFrom, first_free}
-use Rattle.mix_core.specs.declared.event.Event.{Event}
-use Rattle.mix_core.specs.declared.event.Event.TheVariants.{Add, Publish, Take}
-use Rattle.mix_core.specs.declared.event.Reply.{Reply}
-use Rattle.mix_core.specs.declared.event.Reply.TheVariants.{In, Late, Outside, Published, Took}
-use Rattle.mix_core.specs.declared.event.Taken.{Taken}
-use Rattle.mix_core.specs.declared.port.Entry.{Entry}
-use Rattle.mix_core.specs.Calls.{IsLaidBy, IsPublished, IsTaken}
-use Rattle.mix_core.specs.History.{IsInside, IsReply, Row, event_by, entry_row}
-use Rattle.mix_core.specs.declared.marks.Marks.{Marks}
-use Rattle.mix_core.specs.declared.port.Kind.TheVariants.{Added}
-use Rattle.mix_core.specs.KeptLaws.{kept_rows-kept}
-use Rattle.mix_core.specs.LegalLaws.{AreReplies-last}
-use Rattle.snd_base.specs.declared.geometry.Geometry.{Geometry}
-use Rattle.mix_core.specs.Run.{AreRepliesSince, IsAnswered, IsReplied, IsReplySince, IsRun, KeepsAdds, is_kept, kept_rows}
-use Rattle.mix_core.specs.Stands.{RepresentsHistory}
-use Rattle.mix_core.specs.TurnLaws.{CanMiss, RepresentsHistory-missed}
-use Rattle.mix_core.specs.View.{MayAdd, View}
+use Rattle.mix_core.specs.Prelude.{ap, append_assoc, arith, length, List, refl, subst, sym, true, ℕ, [], ◌++◌, ◌+◌, ◌<◌, ◌∙◌, ◌∷◌, ◌≡◌, append-nil}
+use Rattle.mix_core.specs.Prelude.{length-append, filter-append, zip, Geometry, first_free, IsFrom, Event, Add, Publish, Take, Reply, In, Late, Outside}
+use Rattle.mix_core.specs.Prelude.{Published, Took, Taken, Marks, Entry, Added, IsLaidBy, IsPublished, IsTaken, entry_row, event_by, IsInside, IsReply, Row}
+use Rattle.mix_core.specs.Prelude.{kept_rows-kept, AreReplies-last, AreRepliesSince, is_kept, IsAnswered, IsReplied, IsReplySince, IsRun, KeepsAdds, kept_rows}
+use Rattle.mix_core.specs.Prelude.{RepresentsHistory, CanMiss, RepresentsHistory-missed, MayAdd, View}
 
 -- a row that is at the end of a core's history is a reply after what is before it
 pub IsReply-last : (v w : View) (h : List Row) (r : Row) → w.geometry ≡ v.geometry → length w.marks ≡ length v.marks

@@ -1,24 +1,10 @@
 -- What each event keeps true of every core.
-use Rattle.std.proofs.Common.{◌≡◌, ℕ, ◌+◌, ◌*◌, ◌<◌, ◌≤◌, List, length, get_or, set, ℤ, pos, negsuc, ◌+ℤ◌, ◌≤ℤ◌, inl, inr, arith, ◌∙◌}
-use Rattle.std.proofs.Math.Nat.{add-div_right}
-use Rattle.std.proofs.lemmas.Bool.Decides.{nat_tests}
-use Rattle.std.proofs.lemmas.Int.{ints}
-use Rattle.std.proofs.lemmas.List.{length-set}
-use Rattle.std.proofs.lemmas.List.Elements.{All-set}
-use Rattle.std.proofs.lemmas.List.Sums.{sum_by-le, sum_by-set}
-use Rattle.std.proofs.lemmas.Bool.{cases_Bool}
-use Rattle.snd_base.specs.declared.geometry.Geometry.{Geometry}
-use Rattle.snd_base.specs.PlaceLaws.{first_free-behind_grows, first_free-behind_low, suc-le-end_frame}
-use Rattle.snd_base.specs.Places.{IsFrom, cursor_after, end_frame, first_frame, first_free, lap, word_index}
-use Rattle.lap_word.specs.Word.{StandsFor, StandsFor-fields, count_of, lap_of, sum_of}
-use Rattle.mix_core.specs.declared.port.Entry.{Entry}
-use Rattle.mix_core.specs.Sound.{AreWithin, HoldsAtMost, IsNow, IsSound, all_hold, hold_at, may_hold}
-use Rattle.mix_core.specs.declared.marks.Marks.{Marks}
-use Rattle.mix_core.specs.Laid.{marks_after, value_of}
-use Rattle.mix_core.specs.Marks.{added_at, is_before, later_of, withdrawn_at}
-use Rattle.mix_core.specs.MarkLaws.{later_up_to, place_up_to, up_to, up_to_later, up_to_place}
-use Rattle.mix_core.specs.View.{View, marks_at, word_at}
-use Rattle.mix_core.specs.Written.{IsNow-next, word_places, words-taken, words-written}
+use Rattle.mix_core.specs.Prelude.{arith, get_or, inl, inr, length, List, negsuc, pos, set, ℕ, ℤ, ◌*◌, ◌+ℤ◌, ◌+◌, ◌<◌, ◌∙◌, ◌≡◌, ◌≤ℤ◌, ◌≤◌, add-div_right}
+use Rattle.mix_core.specs.Prelude.{cases_Bool, nat_tests, ints, length-set, All-set, sum_by-le, sum_by-set, Geometry, first_free-behind_grows}
+use Rattle.mix_core.specs.Prelude.{first_free-behind_low, suc-le-end_frame, cursor_after, end_frame, first_frame, first_free, IsFrom, lap, word_index, count_of}
+use Rattle.mix_core.specs.Prelude.{lap_of, StandsFor, StandsFor-fields, sum_of, Marks, Entry, marks_after, value_of, later_up_to, place_up_to, up_to}
+use Rattle.mix_core.specs.Prelude.{up_to_later, up_to_place, added_at, is_before, later_of, withdrawn_at, all_hold, AreWithin, hold_at, HoldsAtMost, IsNow}
+use Rattle.mix_core.specs.Prelude.{IsSound, may_hold, marks_at, View, word_at, IsNow-next, word_places, words-taken, words-written}
 use Rattle.mix_core.proofs.Agreement.{laid_view, taken_view}
 
 -- one member's marks move

@@ -1,31 +1,12 @@
 -- What the standing adds of a run are after one more event, and what a withdrawal replies by them.
-use Rattle.std.proofs.Common.{◌≡◌, ◌≢◌, ℕ, ◌+◌, ◌<◌, ◌≤◌, true, false, None, Some, List, [], ◌∷◌, ◌++◌, drop, take, fold, length, ℤ, inl, inr, refl, sym, subst, ap, ◌∙◌, append_assoc, arith}
-use Rattle.std.specs.Prelude.{slice_index_or, nat_lt, nat_eq, ⊤}
-use Rattle.std.proofs.lemmas.Bool.{cases_eq}
-use Rattle.std.proofs.lemmas.Bool.Decides.{nat_tests}
-use Rattle.std.proofs.lemmas.List.{append-nil}
-use Rattle.std.proofs.lemmas.List.Elements.{filter-append, filter_map-append}
-use Rattle.std.proofs.lemmas.List.Sums.{fold-append, fold_push}
-use Rattle.snd_base.specs.declared.geometry.Geometry.{Geometry}
-use Rattle.snd_base.specs.Places.{IsFrom, first_frame, first_free}
-use Rattle.mix_core.specs.declared.event.Event.{Event}
-use Rattle.mix_core.specs.declared.event.Event.TheVariants.{Add, Publish, Take, Withdraw}
-use Rattle.mix_core.specs.declared.event.Reply.{Reply}
-use Rattle.mix_core.specs.declared.event.Reply.TheVariants.{In, LapEnd, Late, Outside, Published, Took}
-use Rattle.mix_core.specs.declared.marks.Marks.{Marks}
-use Rattle.mix_core.specs.declared.port.Entry.{Entry}
-use Rattle.mix_core.specs.declared.port.Kind.TheVariants.{Added, Withdrawn}
-use Rattle.mix_core.specs.Calls.{IsLaidBy}
-use Rattle.mix_core.specs.History.{IsHeld, IsReply, IsSample, Row, entry_of, is_taken, laid_of}
-use Rattle.mix_core.specs.HeldLaws.{HeldPlace, held-at, last_is, missed-back}
-use Rattle.mix_core.specs.KeptLaws.{AreAlike-kept, IsReply-alike, laid_of-kept}
-use Rattle.mix_core.specs.Laid.{a_withdrawal, last_entry, marks_of, own_entries, stand_after, standing, standing_of, standing_with, without_last}
-use Rattle.mix_core.specs.LegalLaws.{AreLeast, marks_of-least}
-use Rattle.mix_core.specs.MarkLaws.{without_last-more}
-use Rattle.mix_core.specs.OwnLaws.{last_entry-more, own-more, own-more_other, standing_of-other, standing_of-own}
-use Rattle.mix_core.specs.Run.{IsAnswered, IsHeldSince, IsLastOf, IsReplied, IsReplySince, KeepsAdds, MayWithdraw, kept_rows}
-use Rattle.mix_core.specs.Stands.{RepresentsHistory}
-use Rattle.mix_core.specs.View.{View}
+use Rattle.mix_core.specs.Prelude.{ap, append_assoc, arith, drop, false, fold, inl, inr, length, List, nat_lt, None, refl, Some, subst, sym, take, true, ℕ, ℤ}
+use Rattle.mix_core.specs.Prelude.{[], ◌++◌, ◌+◌, ◌<◌, ◌∙◌, ◌∷◌, ◌≡◌, ◌≢◌, ◌≤◌, cases_eq, nat_tests, append-nil, filter-append, filter_map-append, fold-append}
+use Rattle.mix_core.specs.Prelude.{fold_push, nat_eq, slice_index_or, ⊤, Geometry, first_frame, first_free, IsFrom, Event, Add, Publish, Take, Withdraw, Reply}
+use Rattle.mix_core.specs.Prelude.{In, LapEnd, Late, Outside, Published, Took, Marks, Entry, Added, Withdrawn, IsLaidBy, held-at, HeldPlace, last_is}
+use Rattle.mix_core.specs.Prelude.{missed-back, entry_of, is_taken, IsHeld, IsReply, IsSample, laid_of, Row, AreAlike-kept, IsReply-alike, laid_of-kept}
+use Rattle.mix_core.specs.Prelude.{a_withdrawal, last_entry, marks_of, own_entries, stand_after, standing, standing_of, standing_with, without_last, AreLeast}
+use Rattle.mix_core.specs.Prelude.{marks_of-least, without_last-more, last_entry-more, own-more, own-more_other, standing_of-other, standing_of-own, IsAnswered}
+use Rattle.mix_core.specs.Prelude.{IsHeldSince, IsLastOf, IsReplied, IsReplySince, KeepsAdds, kept_rows, MayWithdraw, RepresentsHistory, View}
 
 -- a row that places nothing
 pub keeps-nothing : (st : List Entry) (rows : List Row) (r : Row) → entry_of r ≡ None → KeepsAdds st rows → KeepsAdds st (rows ++ r ∷ [])

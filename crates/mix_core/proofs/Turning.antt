@@ -1,15 +1,12 @@
 -- What a turn's placements and withdrawals end in, by their asks.
-use Rattle.std.proofs.Common.{◌≡◌, ℕ, ◌+◌, ◌<◌, Some, List, [], ◌∷◌, refl, sym, subst, ap, arith}
+use Rattle.mix_core.specs.Prelude.{ap, arith, List, refl, Some, subst, sym, ℕ, [], ◌+◌, ◌<◌, ◌∷◌, ◌≡◌, Entry, Lays, core_of, TurnFinds, TurnLaid, TurnLoaded}
+use Rattle.mix_core.specs.Prelude.{TurnMissed, view_of_turn, word_of_turn, IsLateWord, IsUntaken, word_at}
 use Rattle.mix_core.specs.declared.gate.Pass.{Pass}
 use Rattle.mix_core.specs.declared.gate.Pass.TheVariants.{Go, Stop}
 use Rattle.mix_core.specs.declared.gate.StepKind.{StepKind}
 use Rattle.mix_core.specs.declared.gate.StepKind.TheVariants.{Look, Exchange}
 use Rattle.mix_core.specs.declared.port.Ended.TheVariants.{Late, Stopped, Whole}
-use Rattle.mix_core.specs.declared.port.Entry.{Entry}
 use Rattle.mix_core.specs.declared.turn.Turn.{Turn}
-use Rattle.mix_core.specs.Port.{Lays}
-use Rattle.mix_core.specs.Turn.{TurnFinds, TurnLaid, TurnLoaded, TurnMissed, core_of, word_of_turn, view_of_turn}
-use Rattle.mix_core.specs.View.{IsLateWord, IsUntaken, word_at}
 
 -- a turn as it was, but for how its core is borrowed
 pub record IsSame (t u : Turn) : Type 0 where

@@ -1,14 +1,6 @@
 -- What the lap of a core's word says of its frame and channel.
-use Rattle.std.proofs.Common.{◌≡◌, ◌≢◌, ℕ, ◌+◌, ◌<◌, ◌≤◌, get_or, inl, inr, arith, subst, sym}
-use Rattle.std.proofs.lemmas.Bool.{cases_lt}
-use Rattle.std.proofs.lemmas.Bool.Decides.{nat_tests}
-use Rattle.snd_base.specs.declared.geometry.Geometry.{Geometry}
-use Rattle.snd_base.specs.PlaceLaws.{div-lt_same}
-use Rattle.snd_base.specs.Places.{first_free, lap, word_index}
-use Rattle.lap_word.specs.Word.{lap_of}
-use Rattle.mix_core.specs.Sound.{IsNow, IsSound}
-use Rattle.mix_core.specs.View.{View, word_at}
-use Rattle.mix_core.specs.Written.{now_of, word_places}
+use Rattle.mix_core.specs.Prelude.{arith, get_or, inl, inr, subst, sym, ℕ, ◌+◌, ◌<◌, ◌≡◌, ◌≢◌, ◌≤◌, cases_lt, nat_tests, Geometry, div-lt_same, first_free, lap}
+use Rattle.mix_core.specs.Prelude.{word_index, lap_of, IsNow, IsSound, View, word_at, now_of, word_places}
 
 -- the word of a frame and channel that were taken has a later lap
 pub word-late : (v : View) (f c : ℕ) → IsSound v → c < v.geometry.channels → f < first_free v.next c → lap v.geometry f < lap_of (word_at v f c)

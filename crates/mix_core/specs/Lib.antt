@@ -12,6 +12,7 @@ pub mod MoreLaws
 pub mod OwnLaws
 pub mod Port
 pub mod PortLaws
+pub mod Prelude
 pub mod ReplyLaws
 pub mod Run
 pub mod Sound

@@ -4,3 +4,4 @@ pub mod Intervals
 pub mod IntervalLaws
 pub mod Masks
 pub mod MaskLaws
+pub mod Prelude

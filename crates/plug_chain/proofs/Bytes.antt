@@ -1,12 +1,7 @@
 -- A number of 24 or 32 bits, rounded down, has the two high bytes.
-use Rattle.std.proofs.Common.{◌≡◌, ℕ, suc, ◌+◌, ◌*◌, ◌-◌, ◌/◌, ◌^◌, ◌<◌, ◌≤◌, List, [], ◌∷◌, length, take, drop, get_or, refl, sym, ap, ◌∙◌, arith, pos, negsuc, inl, inr}
-use Rattle.std.proofs.Math.Nat.{mul-le-mul_left}
-use Rattle.std.proofs.lemmas.Bool.{cases_lt}
-use Rattle.std.proofs.lemmas.Bool.Decides.{nat_tests}
-use Rattle.std.proofs.lemmas.Int.{ints}
-use Rattle.std.proofs.lemmas.Nat.{div-mul-add}
-use Rattle.std.specs.Int.{w16, cast_signed, from_le_bytes, int_div_euclid}
-use Rattle.plug_chain.specs.Samples.{low_first, signed_number}
+use Rattle.plug_chain.specs.Prelude.{ap, arith, drop, get_or, inl, inr, length, List, negsuc, pos, refl, suc, sym, take, ℕ, [], ◌*◌, ◌+◌, ◌-◌, ◌/◌, ◌<◌, ◌^◌}
+use Rattle.plug_chain.specs.Prelude.{◌∙◌, ◌∷◌, ◌≡◌, ◌≤◌, mul-le-mul_left, cases_lt, nat_tests, ints, div-mul-add, cast_signed, from_le_bytes, int_div_euclid}
+use Rattle.plug_chain.specs.Prelude.{w16, low_first, signed_number}
 
 -- a number of parts, and less than a part
 div_parts : (unit m low n : ℕ) → low < unit → n ≡ low + unit * m → n / unit ≡ m

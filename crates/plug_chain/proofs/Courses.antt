@@ -1,13 +1,8 @@
 -- How output frames are appended.
-use Rattle.std.proofs.Common.{◌≡◌, ℕ, zero, suc, ◌+◌, ◌-◌, ◌*◌, ◌<◌, ◌≤◌, List, [], ◌∷◌, ◌++◌, length, take, get_or, pos, refl, sym, ap, ◌∙◌, arith, ℤ, append_assoc, length-append}
-use Rattle.std.proofs.Math.Seq.{get_or-append_seam}
-use Rattle.std.proofs.lemmas.List.{append-nil}
-use Rattle.std.specs.Prelude.{slice_index_or}
-use Rattle.plug_chain.specs.declared.interpolation.Course.{Course}
-use Rattle.plug_chain.specs.Courses.{IsAdvance}
-use Rattle.plug_chain.specs.Growth.{Appends, Extends}
-use Rattle.plug_chain.specs.Held.{samples_of}
-use Rattle.plug_chain.specs.Rates.{AreRates, IsRateAt, IsUnderway, RatePair, known_samples, known_count, output_count, output_frame, output_frames, resampled_samples, silence}
+use Rattle.plug_chain.specs.Prelude.{ap, append_assoc, arith, get_or, length, length-append, List, pos, refl, suc, sym, take, zero, ℕ, ℤ, [], ◌*◌, ◌++◌, ◌+◌}
+use Rattle.plug_chain.specs.Prelude.{◌-◌, ◌<◌, ◌∙◌, ◌∷◌, ◌≡◌, ◌≤◌, get_or-append_seam, append-nil, slice_index_or, Course, IsAdvance, Appends, Extends}
+use Rattle.plug_chain.specs.Prelude.{samples_of, AreRates, IsRateAt, IsUnderway, known_count, known_samples, output_count, output_frame, output_frames}
+use Rattle.plug_chain.specs.Prelude.{RatePair, resampled_samples, silence}
 use Rattle.plug_chain.proofs.Places.{known_count-is, output_count-is, output_frame-known}
 use Rattle.plug_chain.proofs.Ranges.{flat_map-range_add, flat_map-range_one, flat_map-range_same}
 

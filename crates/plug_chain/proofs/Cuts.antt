@@ -1,9 +1,7 @@
 -- Bytes divided into frames, in two pieces.
-use Rattle.std.proofs.Common.{◌≡◌, ℕ, zero, suc, ◌+◌, ◌*◌, ◌/◌, ◌%◌, ◌<◌, ◌≤◌, List, [], ◌∷◌, ◌++◌, length, take, drop, refl, sym, ap, ◌∙◌, arith, inl, inr, length-drop, length-append}
-use Rattle.std.proofs.lemmas.List.{drop-drop, take-append-le, drop-append-le}
-use Rattle.std.proofs.lemmas.Bool.{cases_lt}
-use Rattle.std.proofs.lemmas.Nat.{div-add-mod', div-mul-add, mod_below}
-use Rattle.plug_chain.specs.Frames.{Conversion, frame_bytes, frame_count, frame_from_bytes, first_frames, frames_of_bytes, rest_of}
+use Rattle.plug_chain.specs.Prelude.{ap, arith, drop, inl, inr, length, length-append, length-drop, List, refl, suc, sym, take, zero, ℕ, [], ◌%◌, ◌*◌, ◌++◌}
+use Rattle.plug_chain.specs.Prelude.{◌+◌, ◌/◌, ◌<◌, ◌∙◌, ◌∷◌, ◌≡◌, ◌≤◌, cases_lt, drop-append-le, drop-drop, take-append-le, div-add-mod', div-mul-add}
+use Rattle.plug_chain.specs.Prelude.{mod_below, Conversion, first_frames, frame_bytes, frame_count, frame_from_bytes, frames_of_bytes, rest_of}
 
 pub frame_count-short : (c : Conversion) (bytes : List ℕ) → length bytes < frame_bytes c → frame_count c bytes ≡ 0
 frame_count-short c bytes short = ap (λ (n : ℕ). n / frame_bytes c) (let e : length bytes ≡ 0 * frame_bytes c + length bytes = omega arith in e) ∙ div-mul-add 0 (frame_bytes c) (length bytes) short

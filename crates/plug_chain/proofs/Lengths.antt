@@ -1,14 +1,8 @@
 -- How many samples a conversion has.
-use Rattle.std.proofs.Common.{◌≡◌, ℕ, zero, suc, ◌+◌, ◌-◌, ◌*◌, ◌/◌, ◌<◌, ◌≤◌, List, [], ◌∷◌, ◌++◌, length, take, drop, get_or, refl, sym, ap, ◌∙◌, arith, ℤ, length-append}
-use Rattle.std.proofs.Math.Nat.{div-le_self, div-mul-le_self, mul-le-mul_right}
-use Rattle.std.proofs.lemmas.List.{nil_from_length}
-use Rattle.std.proofs.lemmas.Nat.{le-div}
-use Rattle.std.specs.List.{flat_map, range_with_len}
-use Rattle.std.specs.Prelude.{min}
-use Rattle.plug_chain.specs.Frames.{Conversion, frame_bytes, frame_count, first_frames, frames_of_bytes, samples_in}
-use Rattle.plug_chain.specs.Plugs.{known_of, plug_of}
-use Rattle.plug_chain.specs.Rates.{AreRates, RatePair, frame_between, frame_at, known_samples, output_count, output_frame, output_frames}
-use Rattle.plug_chain.specs.Tables.{IsTable}
+use Rattle.plug_chain.specs.Prelude.{ap, arith, drop, get_or, length, length-append, List, refl, suc, sym, take, zero, ℕ, ℤ, [], ◌*◌, ◌++◌, ◌+◌, ◌-◌, ◌/◌, ◌<◌}
+use Rattle.plug_chain.specs.Prelude.{◌∙◌, ◌∷◌, ◌≡◌, ◌≤◌, div-le_self, div-mul-le_self, mul-le-mul_right, nil_from_length, le-div, flat_map, range_with_len, min}
+use Rattle.plug_chain.specs.Prelude.{Conversion, first_frames, frame_bytes, frame_count, frames_of_bytes, samples_in, known_of, plug_of, AreRates, frame_at}
+use Rattle.plug_chain.specs.Prelude.{frame_between, known_samples, output_count, output_frame, output_frames, RatePair, IsTable}
 use Rattle.plug_chain.proofs.Places.{output_count-is}
 use Rattle.plug_chain.proofs.Stages.{frame_bytes-some, length-output_samples}
 

@@ -1,16 +1,9 @@
 -- Numbers on a line between two samples, and frames on it.
-use Rattle.std.proofs.Common.{◌≡◌, ℕ, zero, suc, ◌+◌, ◌*◌, ◌-◌, ◌/◌, ◌%◌, ◌<◌, ◌≤◌, List, [], ◌∷◌, ◌++◌, length, drop, get_or, append_assoc, refl, sym, ap, subst, ◌∙◌, arith, ℤ, pos, negsuc, inl, inr}
-use Rattle.std.specs.Prelude.{◌+ℤ◌, ◌-ℤ◌, ◌*ℤ◌, ◌≤ℤ◌, ◌<ℤ◌, FitsSigned}
+use Rattle.plug_chain.specs.Prelude.{ap, append_assoc, arith, drop, FitsSigned, get_or, inl, inr, length, List, negsuc, pos, refl, subst, suc, sym, zero, ℕ, ℤ}
+use Rattle.plug_chain.specs.Prelude.{[], ◌%◌, ◌*◌, ◌++◌, ◌+◌, ◌-◌, ◌/◌, ◌<◌, ◌∙◌, ◌∷◌, ◌≡◌, ◌≤◌, div-le_self, mul-le-mul, mul-le-mul_left, drop-cons, cases_lt}
+use Rattle.plug_chain.specs.Prelude.{by_lt_z, ints, to_z-of_z, div-add-mod', div-mul-add, div_below, mod-mul-add, mod_below, div_ceil, int_div_euclid, w16, w64}
+use Rattle.plug_chain.specs.Prelude.{unsigned_abs, ◌*ℤ◌, ◌+ℤ◌, ◌-ℤ◌, ◌<ℤ◌, ◌≤ℤ◌, to_z, frame_between, IsRise, on_line}
 use lib.IntN.{neg_ℤ}
-use mir.Val.{to_z}
-use Rattle.std.proofs.Math.Nat.{div-le_self, mul-le-mul, mul-le-mul_left}
-use Rattle.std.proofs.lemmas.Bool.{cases_lt}
-use Rattle.std.specs.Int.RustNames.{unsigned_abs}
-use Rattle.std.proofs.Math.Seq.{drop-cons}
-use Rattle.std.proofs.lemmas.Int.{by_lt_z, ints, to_z-of_z}
-use Rattle.std.proofs.lemmas.Nat.{div-add-mod', div-mul-add, div_below, mod-mul-add, mod_below}
-use Rattle.std.specs.Int.{w16, w64, div_ceil, int_div_euclid}
-use Rattle.plug_chain.specs.Rates.{IsRise, on_line, frame_between}
 
 -- a part of a number is at most the number
 part_of-le : (n part parts : ℕ) → 1 ≤ parts → part ≤ parts → n * part / parts ≤ n

@@ -1,12 +1,8 @@
 -- Where output frames lie.
-use Rattle.std.proofs.Common.{◌≡◌, ℕ, zero, suc, ◌+◌, ◌-◌, ◌*◌, ◌/◌, ◌%◌, ◌<◌, ◌≤◌, List, [], ◌∷◌, ◌++◌, length, get_or, refl, sym, ap, ◌∙◌, arith, ℤ, inl, inr, length-append}
-use Rattle.std.proofs.Math.Nat.{div-mul-le_self, mul-le-mul_right}
-use Rattle.std.proofs.Math.Seq.{get_or-append_seam}
-use Rattle.std.proofs.lemmas.Bool.{cases_lt}
-use Rattle.std.proofs.lemmas.List.{get_or_append_left, get_or_default}
-use Rattle.std.proofs.lemmas.Nat.{div-add-mod', div-mul-add, div_below, le-div, mod-mul-add, mod_below}
-use Rattle.std.specs.Prelude.{min}
-use Rattle.plug_chain.specs.Rates.{AreRates, IsRateAt, RatePair, frame_between, frame_at, known_count, output_count, output_frame, silence}
+use Rattle.plug_chain.specs.Prelude.{ap, arith, get_or, inl, inr, length, length-append, List, refl, suc, sym, zero, ℕ, ℤ, [], ◌%◌, ◌*◌, ◌++◌, ◌+◌, ◌-◌, ◌/◌}
+use Rattle.plug_chain.specs.Prelude.{◌<◌, ◌∙◌, ◌∷◌, ◌≡◌, ◌≤◌, div-mul-le_self, mul-le-mul_right, get_or-append_seam, cases_lt, get_or_append_left}
+use Rattle.plug_chain.specs.Prelude.{get_or_default, div-add-mod', div-mul-add, div_below, le-div, mod-mul-add, mod_below, min, AreRates, frame_at}
+use Rattle.plug_chain.specs.Prelude.{frame_between, IsRateAt, known_count, output_count, output_frame, RatePair, silence}
 use Rattle.plug_chain.proofs.Lines.{between-none, between-same, between-whole}
 
 -- the number of the first frame past n frames, counted by output frames

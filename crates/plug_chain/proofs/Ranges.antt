@@ -1,7 +1,6 @@
 -- Lists made over a range of numbers.
-use Rattle.std.proofs.Common.{◌≡◌, ℕ, zero, suc, ◌+◌, ◌<◌, ◌≤◌, List, ◌++◌, refl, sym, ap, ◌∙◌, arith, append_assoc}
-use Rattle.std.proofs.lemmas.List.{append-nil}
-use Rattle.std.specs.List.{flat_map, range_with_len}
+use Rattle.plug_chain.specs.Prelude.{ap, append_assoc, arith, List, refl, suc, sym, zero, ℕ, ◌++◌, ◌+◌, ◌<◌, ◌∙◌, ◌≡◌, ◌≤◌, append-nil, flat_map}
+use Rattle.plug_chain.specs.Prelude.{range_with_len}
 
 -- a range in two parts
 pub flat_map-range_add : {X : Type 0} (g : ℕ → List X) (a m k s b : ℕ) → s ≡ m + k → b ≡ a + m

@@ -1,11 +1,6 @@
 -- How far a run over the frames of some bytes has come.
-use Rattle.std.proofs.Common.{◌≡◌, ℕ, suc, ◌≤◌, ◌<◌, ◌++◌, List, [], ◌∷◌, length, take, drop, sym, ap, subst, ◌∙◌, ℤ, append_assoc}
-use Rattle.std.proofs.lemmas.List.{append-nil}
-use Rattle.plug_chain.specs.declared.interpolation.Course.{Course}
-use Rattle.plug_chain.specs.Courses.{Advances, IsAdvance}
-use Rattle.plug_chain.specs.Frames.{Conversion, frame_bytes, frame_from_bytes, frames_of_bytes, samples_in}
-use Rattle.plug_chain.specs.Samples.{bytes_of, wide_sample}
-use Rattle.plug_chain.specs.declared.wide.Wide.{Wide}
+use Rattle.plug_chain.specs.Prelude.{ap, append_assoc, drop, length, List, subst, suc, sym, take, ℕ, ℤ, [], ◌++◌, ◌<◌, ◌∙◌, ◌∷◌, ◌≡◌, ◌≤◌, append-nil, Course}
+use Rattle.plug_chain.specs.Prelude.{Wide, Advances, IsAdvance, Conversion, frame_bytes, frame_from_bytes, frames_of_bytes, samples_in, bytes_of, wide_sample}
 use Rattle.plug_chain.proofs.Courses.{IsAdvance-trans}
 use Rattle.plug_chain.proofs.Cuts.{frames_of_bytes-more, frames_of_bytes-short}
 

@@ -1,24 +1,12 @@
 -- How a conversion goes on with more bytes.
-use Rattle.std.proofs.Common.{◌≡◌, ℕ, zero, suc, ◌*◌, ◌≤◌, ◌<◌, ◌++◌, List, [], ◌∷◌, length, take, drop, refl, sym, ap, subst, ◌∙◌, arith, ℤ, append_assoc, Result, Ok, Err}
-use Rattle.std.proofs.Math.Nat.{mul-le-mul}
-use Rattle.std.proofs.Math.Seq.{drop-length, take-length}
-use Rattle.std.proofs.lemmas.List.{append-nil}
-use Rattle.std.proofs.lemmas.List.FromFn.{length-map-range_with_len}
-use Rattle.std.specs.Prelude.{IsErrAnd, OnOk}
+use Rattle.plug_chain.specs.Prelude.{ap, append_assoc, arith, drop, Err, length, List, Ok, refl, Result, subst, suc, sym, take, zero, ℕ, ℤ, [], ◌*◌, ◌++◌, ◌<◌}
+use Rattle.plug_chain.specs.Prelude.{◌∙◌, ◌∷◌, ◌≡◌, ◌≤◌, mul-le-mul, drop-length, take-length, append-nil, length-map-range_with_len, IsErrAnd, OnOk, Course}
+use Rattle.plug_chain.specs.Prelude.{Wide, Advances, Ends, IsAdvance, Conversion, frame_bytes, frame_from_bytes, frames_of_bytes, rest_of, samples_in, Appends}
+use Rattle.plug_chain.specs.Prelude.{part_bytes, samples_of, Completes, Continues, HasTakenBytes, IsStage, IsCourse, IsRateAt, known_samples, RatePair}
+use Rattle.plug_chain.specs.Prelude.{bytes_of, ChannelTable, IsTable, output_channel, output_samples, conversion_of, stage_of}
 use Rattle.plug_chain.specs.declared.converter.Converter.{Converter}
 use Rattle.plug_chain.specs.declared.converter.Progress.{Progress}
-use Rattle.plug_chain.specs.declared.interpolation.Course.{Course}
-use Rattle.plug_chain.specs.declared.wide.Wide.{Wide}
 use Rattle.plug_chain.specs.declared.wide.Wide.TheVariants.{S8, U8, S16Le, S16Be, S24Packed, S32Le}
-use Rattle.plug_chain.specs.Courses.{Advances, Ends, IsAdvance}
-use Rattle.plug_chain.specs.Frames.{Conversion, frame_bytes, frame_from_bytes, frames_of_bytes, rest_of, samples_in}
-use Rattle.plug_chain.specs.Growth.{Appends}
-use Rattle.plug_chain.specs.Held.{part_bytes, samples_of}
-use Rattle.plug_chain.specs.Plugs.{Completes, Continues, HasTakenBytes, IsStage}
-use Rattle.plug_chain.specs.Rates.{IsCourse, IsRateAt, RatePair, known_samples}
-use Rattle.plug_chain.specs.Samples.{bytes_of}
-use Rattle.plug_chain.specs.Tables.{ChannelTable, IsTable, output_channel, output_samples}
-use Rattle.plug_chain.specs.Views.{conversion_of, stage_of}
 use Rattle.plug_chain.proofs.Courses.{IsAdvance-none, IsAdvance-trans}
 use Rattle.plug_chain.proofs.Cuts.{frames_of_bytes-append, frames_of_bytes-front, frames_of_bytes-short, rest_of-append, rest_of-front, rest_of-short}
 

@@ -1,12 +1,7 @@
 -- Sums of weighted samples.
-use Rattle.std.proofs.Common.{◌≡◌, ℕ, suc, ◌+◌, ◌*◌, ◌<◌, ◌≤◌, List, ◌∷◌, length, drop, get_or, sym, ap, ◌∙◌, arith, ℤ, pos, negsuc}
-use Rattle.std.proofs.Math.Nat.{mul-le-mul}
-use Rattle.std.proofs.Math.Seq.{drop-cons}
-use Rattle.std.proofs.lemmas.Int.{clamps, ints, to_z-of_z}
-use Rattle.std.specs.Prelude.{◌+ℤ◌, ◌*ℤ◌, FitsSigned}
-use Rattle.std.specs.Int.{w16, w64, int_max, int_min, saturate_signed}
-use mir.Val.{to_z, of_z}
-use Rattle.plug_chain.specs.Tables.{IsSumOf, IsWeight, weighted_sum}
+use Rattle.plug_chain.specs.Prelude.{ap, arith, drop, FitsSigned, get_or, length, List, negsuc, pos, suc, sym, ℕ, ℤ, ◌*◌, ◌+◌, ◌<◌, ◌∙◌, ◌∷◌, ◌≡◌, ◌≤◌}
+use Rattle.plug_chain.specs.Prelude.{mul-le-mul, drop-cons, clamps, ints, to_z-of_z, int_max, int_min, saturate_signed, w16, w64, ◌*ℤ◌, ◌+ℤ◌, of_z, to_z}
+use Rattle.plug_chain.specs.Prelude.{IsSumOf, IsWeight, weighted_sum}
 
 pub IsSumOf-product : (w x : ℤ) → IsWeight w → FitsSigned w16 x → IsSumOf 1 (w *ℤ x)
 IsSumOf-product (pos a) (pos b) weight fits = let g : a ≤ 65536 = omega (arith, ints) in let f : b ≤ 32768 = omega (arith, ints) in let h : a * b ≤ 65536 * 32768 = mul-le-mul g f in record { low = omega (arith, ints); high = omega (arith, ints) }

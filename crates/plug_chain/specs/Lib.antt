@@ -1,3 +1,4 @@
+pub mod Prelude
 pub mod Samples
 pub mod Tables
 pub mod Rates

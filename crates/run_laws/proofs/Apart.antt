@@ -1,22 +1,9 @@
 -- Clients that share a card by channels have no channel in common while they are open: each channel has one owner.
-use Rattle.std.proofs.Common.{◌≡◌, ℕ, ◌<◌, refl, sym, ◌∙◌, ap, subst, List, [], ◌∷◌, length, Option, Some, None}
-use Rattle.std.proofs.lemmas.Bool.{eqb-true, false≢true}
-use Rattle.std.specs.Prelude.{Bool, true, false, ◌==◌, ◌||◌, is_some, slice_index_or, slice_set}
-use Rattle.mix_core.specs.Marks.{high_frame}
-use Rattle.wav_io.specs.Sound.{Sound}
-use Rattle.dmix_client.specs.declared.stream.PlaybackStream.{PlaybackStream}
-use Rattle.dshare.specs.Owners.{AreFree, ClaimRow as Claim, IsFree, claimed, has_channel, owner_of, released}
-use Rattle.lab_lines.specs.declared.line.Item.{Item}
-use Rattle.lab_lines.specs.declared.line.Op.{Op}
-use Rattle.lab_lines.specs.declared.script.Share.TheVariants.{Dshare}
-use Rattle.lab_lines.specs.declared.row.Answer.{Answer}
-use Rattle.lab_run.specs.Claims.{ClaimIsOwners, claim_refusal, with_claim, with_release}
-use Rattle.lab_run.specs.Client.{Client, client_kind}
-use Rattle.lab_run.specs.Items.{no_sound}
-use Rattle.lab_run.specs.Lines.{LineMay}
-use Rattle.lab_run.specs.Rules.{AtPort, Rules}
-use Rattle.lab_run.specs.Stage.{Session, Setup, Stage, client_at, ended_client, first_stage}
-use Rattle.run_laws.specs.Shares.{HaveOwnChannels, channels_of_client}
+use Rattle.run_laws.specs.Prelude.{ap, length, List, None, Option, refl, Some, subst, sym, ℕ, [], ◌<◌, ◌∙◌, ◌∷◌, ◌≡◌, eqb-true, false≢true, Bool, false}
+use Rattle.run_laws.specs.Prelude.{is_some, slice_index_or, slice_set, true, ◌==◌, ◌||◌, AreFree, claimed, ClaimRow as Claim, has_channel, IsFree, owner_of}
+use Rattle.run_laws.specs.Prelude.{released, high_frame, PlaybackStream, Sound, Item, Op, Answer, Dshare, claim_refusal, ClaimIsOwners, with_claim}
+use Rattle.run_laws.specs.Prelude.{with_release, Client, client_kind, no_sound, LineMay, AtPort, Rules, client_at, ended_client, first_stage, Session, Setup}
+use Rattle.run_laws.specs.Prelude.{Stage, channels_of_client, HaveOwnChannels}
 use Rattle.run_laws.proofs.Bound.{HasBindings, line-bound}
 use Rattle.run_laws.proofs.Going.{still-client}
 use Rattle.run_laws.proofs.Stages.{IsLasting, at, first-none, items-held, client_opened, set-so}

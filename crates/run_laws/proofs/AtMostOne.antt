@@ -1,23 +1,9 @@
 -- A segment has at most one sample at a frame and channel: on a channel of its client, and in one of its frames.
-use Rattle.std.proofs.Common.{◌≡◌, ℕ, ◌+◌, ◌<◌, ◌≤◌, ◌⊎◌, inl, inr, refl, sym, ◌∙◌, ap, subst, arith, List, [], ◌∷◌, ◌++◌, length, Option, None}
-use Rattle.std.proofs.lemmas.Bool.{eq-eqb, eqb-true, false≢true}
-use Rattle.std.proofs.lemmas.Bool.Decides.{nat_tests}
-use Rattle.std.proofs.lemmas.List.{append-nil, length-append}
-use Rattle.std.proofs.lemmas.List.Concat.{flat_map-append}
-use Rattle.std.specs.List.{flat_map, range_with_len}
-use Rattle.std.specs.Prelude.{ℤ, Bool, ◌==◌, ◌||◌, false, true, zero, suc, nat_eq, if◌then◌else◌, map, slice_index, slice_index_or, take}
-use Rattle.snd_base.specs.declared.places.Segment.{Segment}
-use Rattle.bindings.specs.Bound.{rising}
-use Rattle.bindings.specs.RisingLaws.{rising_from-rises, rising_from-within}
-use Rattle.mix_core.specs.declared.port.Entry.{Entry}
-use Rattle.mix_core.specs.HistoryLaws.{at-append}
-use Rattle.mix_core.specs.Laid.{at}
-use Rattle.dmix_client.specs.Expansion.{expand, frame_entries, sample_at}
-use Rattle.dshare.specs.Owners.{has_channel}
-use Rattle.lab_run.specs.Client.{Client, segments_of}
-use Rattle.lab_run.specs.LabRun.{all_segments, bindings_of, entries_by, entries_of}
-use Rattle.lab_run.specs.Rules.{AtPort}
-use Rattle.lab_run.specs.Stage.{Session, Setup, no_client}
+use Rattle.run_laws.specs.Prelude.{ap, arith, inl, inr, length, List, None, Option, refl, subst, sym, ℕ, [], ◌++◌, ◌+◌, ◌<◌, ◌∙◌, ◌∷◌, ◌≡◌, ◌≤◌, ◌⊎◌, eq-eqb}
+use Rattle.run_laws.specs.Prelude.{eqb-true, false≢true, nat_tests, append-nil, length-append, flat_map-append, flat_map, range_with_len, Bool, false}
+use Rattle.run_laws.specs.Prelude.{if◌then◌else◌, map, nat_eq, slice_index, slice_index_or, suc, take, true, zero, ℤ, ◌==◌, ◌||◌, Segment, rising}
+use Rattle.run_laws.specs.Prelude.{rising_from-rises, rising_from-within, has_channel, Entry, at-append, at, expand, frame_entries, sample_at, Client}
+use Rattle.run_laws.specs.Prelude.{segments_of, all_segments, bindings_of, entries_by, entries_of, AtPort, no_client, Session, Setup}
 use Rattle.run_laws.specs.Once.{PlacesOnce}
 use Rattle.run_laws.proofs.Expanded.{AreOther, at-flat, entries-so, entry_of, other-channels, part_at, whole_at}
 use Rattle.run_laws.proofs.Numbered.{numbered-at, numbered-parts}

@@ -1,36 +1,22 @@
 -- The rows of openings and closings have a text, and their actors stay such that they have one.
-use Rattle.std.proofs.Common.{◌≡◌, ℕ, ◌<◌, refl, sym, ◌∙◌, subst, List, [], ◌∷◌, ◌++◌, length, map, Option, Some, None}
-use Rattle.std.proofs.lemmas.List.{length-set, map-append}
-use Rattle.std.proofs.lemmas.List.Elements.{All-push, All-set}
-use Rattle.std.specs.Prelude.{All, Bool, true, false, if◌then◌else◌, slice_index_or, slice_set, Result, Ok, Err, IfErr, IfSome}
-use Rattle.std.specs.List.{list_all, list_any, position}
-use Rattle.snd_base.specs.declared.errors.PcmError.{PcmError}
-use Rattle.snd_base.specs.declared.errors.PcmError.TheVariants as error
-use Rattle.dmix_client.specs.declared.stream.PlaybackStream.{PlaybackStream}
-use Rattle.dsnoop_client.specs.declared.stream.CaptureStream as reading
-use Rattle.dshare.specs.Owners as owners
-use Rattle.lab_lines.specs.declared.line.Actor.{Actor}
-use Rattle.lab_lines.specs.declared.line.Actor.TheVariants as actor
-use Rattle.lab_lines.specs.declared.line.Op.TheVariants as op
-use Rattle.lab_lines.specs.declared.script.Script.{Script}
+use Rattle.run_laws.specs.Prelude.{length, List, None, Option, refl, Some, subst, sym, ℕ, [], ◌++◌, ◌<◌, ◌∙◌, ◌∷◌, ◌≡◌, length-set, map-append, All-push}
+use Rattle.run_laws.specs.Prelude.{All-set, list_all, list_any, position, All, Bool, Err, false, IfErr, IfSome, if◌then◌else◌, map, Ok, Result, slice_index_or}
+use Rattle.run_laws.specs.Prelude.{slice_set, true, PcmError, PlaybackStream, Actor, Request, Failed, Row, Script, IsBorder, request_of_row, HasErrorText}
+use Rattle.run_laws.specs.Prelude.{IsRowOf, claim_refusal, is_free_channel, Client, after_attach, attached_by, is_free, is_silent, Lobby, Reader, AtPort}
+use Rattle.run_laws.specs.Prelude.{after_close, after_open, attached_client, claimed_client, client_at, close_client, close_reader, ended_client, ended_reader}
+use Rattle.run_laws.specs.Prelude.{no_client, no_reader, open_client, open_client_with, open_reader, open_reader_with, reader_at, Session, Setup, Stage}
+use Rattle.run_laws.specs.Prelude.{with_row}
 use Rattle.lab_lines.specs.declared.script.Share.{Share}
-use Rattle.lab_lines.specs.declared.script.Share.TheVariants as share
-use Rattle.lab_lines.specs.Limits.{IsBorder}
-use Rattle.lab_lines.specs.declared.request.Request.{Request}
-use Rattle.lab_lines.specs.declared.row.Answer.TheVariants.{Failed}
-use Rattle.lab_lines.specs.declared.row.Row.{Row}
-use Rattle.lab_lines.specs.Rows.{request_of_row}
-use Rattle.lab_report.specs.Text.{HasErrorText, IsRowOf}
-use Rattle.lab_run.specs.Claims.{claim_refusal, is_free_channel}
-use Rattle.lab_run.specs.Client.{Client}
-use Rattle.lab_run.specs.Places.{Lobby, after_attach, attached_by, is_free, is_silent}
-use Rattle.lab_run.specs.Reader.{Reader}
-use Rattle.lab_run.specs.Rules.{AtPort}
-use Rattle.lab_run.specs.Stage.{Session, Setup, Stage, after_close, after_open, attached_client, claimed_client, client_at, close_client, close_reader, ended_client, ended_reader, no_client, no_reader, open_client, open_client_with, open_reader, open_reader_with, reader_at, with_row}
 use Rattle.run_laws.proofs.ClientCalls.{IsReportable}
 use Rattle.run_laws.proofs.Lines.{client_row-of, reader_row-of}
-use Rattle.run_laws.proofs.ReaderCalls as reader_calls
 use Rattle.run_laws.proofs.Requests.{asks}
+use Rattle.snd_base.specs.declared.errors.PcmError.TheVariants as error
+use Rattle.dsnoop_client.specs.declared.stream.CaptureStream as reading
+use Rattle.dshare.specs.Owners as owners
+use Rattle.lab_lines.specs.declared.line.Actor.TheVariants as actor
+use Rattle.lab_lines.specs.declared.line.Op.TheVariants as op
+use Rattle.lab_lines.specs.declared.script.Share.TheVariants as share
+use Rattle.run_laws.proofs.ReaderCalls as reader_calls
 
 -- a client, and a reader, at its port has a state with a text where it is open
 abbrev pub IsClientReportable : AtPort × Client → Type 0

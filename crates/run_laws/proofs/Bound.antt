@@ -1,22 +1,10 @@
 -- A client's channels are bound as its setup says, in each stage of a run and between its lines.
-use Rattle.std.proofs.Common.{◌≡◌, ℕ, refl, sym, subst, List, Option, Some, None}
-use Rattle.std.specs.Prelude.{false, IfSome}
-use Rattle.snd_base.specs.declared.errors.PcmError.TheVariants as error
-use Rattle.course.specs.Gives.{Gives-map}
-use Rattle.wav_io.specs.Sound.{Sound}
-use Rattle.dmix_client.specs.declared.stream.PlaybackStream.{PlaybackStream}
-use Rattle.lab_lines.specs.declared.line.Op.{Op}
-use Rattle.lab_lines.specs.declared.line.Op.TheVariants as op
-use Rattle.lab_lines.specs.declared.row.Answer.{Answer}
-use Rattle.lab_lines.specs.declared.row.Answer.TheVariants.{Done, Failed}
-use Rattle.lab_run.specs.Client.{Client, after_call, call_of, client_kind}
-use Rattle.run_laws.specs.LateRows.{is_rewind}
-use Rattle.lab_run.specs.Lines.{LineMay}
-use Rattle.lab_run.specs.Rules.{AtPort, Rules}
-use Rattle.lab_run.specs.Stage.{Setup}
-use Rattle.lab_run.proofs.EachLine.{client-line}
+use Rattle.run_laws.specs.Prelude.{List, None, Option, refl, Some, subst, sym, ℕ, ◌≡◌, false, IfSome, Gives-map, PlaybackStream, Sound, Op, Answer, Done}
+use Rattle.run_laws.specs.Prelude.{Failed, after_call, call_of, Client, client_kind, LineMay, AtPort, Rules, Setup, client-line, is_rewind}
 use Rattle.run_laws.proofs.LateParts.{Bound, Named, call-named, rewind-named}
 use Rattle.run_laws.proofs.Stages.{IsKept}
+use Rattle.snd_base.specs.declared.errors.PcmError.TheVariants as error
+use Rattle.lab_lines.specs.declared.line.Op.TheVariants as op
 
 -- ---- a line
 

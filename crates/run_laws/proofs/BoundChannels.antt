@@ -1,26 +1,14 @@
 -- The clients of a script are bound to channels of the card that differ.
-use Rattle.std.proofs.Common.{◌≡◌, ℕ, zero, suc, ◌<◌, ◌≤◌, List, [], ◌∷◌, inl, inr, sym, subst, arith, length, Option, Some, None}
-use Rattle.std.specs.Prelude.{unwrap_or, IfSome, slice_index_or}
+use Rattle.run_laws.specs.Prelude.{arith, inl, inr, length, List, None, Option, Some, subst, sym, ℕ, [], ◌<◌, ◌∷◌, ◌≡◌, ◌≤◌, IfSome, slice_index_or, suc}
+use Rattle.run_laws.specs.Prelude.{unwrap_or, zero, AreBindings, identity, AreBindings-identity, ParamBox, point, with_value, IsLeft, whole_from_to, widest}
+use Rattle.run_laws.specs.Prelude.{Sound, CardLine, ClientLine, Script, IsBoundWhere, IsClientLine, IsScript, AreClientOpenings, IsClientOpening, IsClientSetup}
+use Rattle.run_laws.specs.Prelude.{IsSessionOf, Session, Setup, AreBound}
 use Rattle.bindings.specs.AnswerLaws.{AreBindings-answered}
-use Rattle.bindings.specs.Bound.{AreBindings, identity}
-use Rattle.bindings.specs.RisingLaws.{AreBindings-identity}
 use Rattle.pcm_interval.specs.declared.interval.Interval.{Interval}
-use Rattle.pcm_interval.specs.Intervals.{IsLowerWithin, IsUpperWithin, IsIntervalWithin, refinement}
 use Rattle.pcm_interval.specs.IntervalLaws.{IsNonEmpty-le, refined-IsWithin_left, refined-IsWithin_right}
+use Rattle.pcm_interval.specs.Intervals.{IsLowerWithin, IsUpperWithin, IsIntervalWithin, refinement}
 use Rattle.hw_space.specs.declared.param.Param.TheVariants.{Channels}
-use Rattle.hw_space.specs.declared.param_box.ParamBox.{ParamBox}
 use Rattle.hw_space.specs.declared.quantity.Quantity.TheVariants as quantity
-use Rattle.hw_space.specs.Narrowings.{point, with_value}
-use Rattle.hw_space.specs.Settled.{IsLeft}
-use Rattle.hw_space.specs.Widest.{whole_from_to, widest}
-use Rattle.wav_io.specs.Sound.{Sound}
-use Rattle.lab_lines.specs.declared.script.CardLine.{CardLine}
-use Rattle.lab_lines.specs.declared.script.ClientLine.{ClientLine}
-use Rattle.lab_lines.specs.declared.script.Script.{Script}
-use Rattle.lab_lines.specs.Limits.{IsBoundWhere, IsClientLine, IsScript}
-use Rattle.lab_run.specs.Openings.{AreClientOpenings, IsClientOpening, IsClientSetup, IsSessionOf}
-use Rattle.lab_run.specs.Stage.{Session, Setup}
-use Rattle.run_laws.specs.OneSample.{AreBound}
 
 -- ---- the channels of a file
 

@@ -1,27 +1,11 @@
 -- At each stage of a run a reader's frames are captured ones: they rise from the card's first frame, and are before its position.
-use Rattle.std.proofs.Common.{◌≡◌, ℕ, ◌+◌, ◌<◌, ◌≤◌, refl, sym, ap, subst, arith, List, [], ◌∷◌, zero, suc, Option, Some, None}
-use Rattle.std.proofs.lemmas.List.Elements.{All-append, All-cons, All-filter, All-head, All-map, All-nil, All-set, All-tail}
-use Rattle.std.proofs.lemmas.List.FromFn.{get_or-range_with_len, length-range_with_len}
-use Rattle.std.proofs.lemmas.List.Sums.{sum_by-cons}
-use Rattle.std.specs.Prelude.{All, Bool, true, false, ◌%◌, ◌==◌, max, slice_index_or}
-use Rattle.std.specs.List.{range_with_len}
-use Rattle.snd_base.specs.declared.geometry.Geometry.{Geometry}
-use Rattle.dsnoop_client.specs.declared.stream.CaptureStream.{CaptureStream}
-use Rattle.lab_lines.specs.declared.line.Actor.{Actor}
-use Rattle.lab_lines.specs.declared.line.Actor.{Actor}
-use Rattle.lab_lines.specs.declared.line.Item.{Item}
-use Rattle.lab_lines.specs.declared.line.Line.{Line}
-use Rattle.lab_lines.specs.declared.line.Op.{Op}
-use Rattle.lab_lines.specs.Script.{first_frame}
-use Rattle.lab_lines.specs.declared.row.Row.{Row}
-use Rattle.lab_run.specs.Items.{ItemsMay, PhaseMay, is_reader_stopped, reader_kinds, reaped_reader, reaped_reader_if, rules_of}
-use Rattle.lab_run.specs.Lines.{EachMay, LinesMay}
-use Rattle.lab_run.specs.Phases.{is_reader, on_the_way, ops_by, played_at, played_in, phase_positions, published_by}
-use Rattle.lab_run.specs.Reader.{Reader, line_by, reader_kind}
-use Rattle.lab_run.specs.Rules.{AtPort, Rules}
-use Rattle.lab_run.specs.Stage.{Session, Stage, first_stage, no_reader, reader_at}
-use Rattle.lab_run.proofs.BorderLaws.{Border, IsAnew, OverItems, items-over}
-use Rattle.lab_run.proofs.ActorKinds.{reader-IsKind}
+use Rattle.run_laws.specs.Prelude.{ap, arith, List, None, Option, refl, Some, subst, sym, ℕ, [], ◌+◌, ◌<◌, ◌∷◌, ◌≡◌, ◌≤◌, All-append, All-cons, All-filter}
+use Rattle.run_laws.specs.Prelude.{All-head, All-map, All-nil, All-set, All-tail, get_or-range_with_len, length-range_with_len, sum_by-cons, range_with_len}
+use Rattle.run_laws.specs.Prelude.{All, Bool, false, max, slice_index_or, suc, true, zero, ◌%◌, ◌==◌, Geometry, CaptureStream, Actor, Item, Line, Op, Row}
+use Rattle.run_laws.specs.Prelude.{first_frame, is_reader_stopped, ItemsMay, PhaseMay, reader_kinds, reaped_reader, reaped_reader_if, rules_of, EachMay}
+use Rattle.run_laws.specs.Prelude.{LinesMay, is_reader, on_the_way, ops_by, phase_positions, played_at, played_in, published_by, Reader, reader_kind, AtPort}
+use Rattle.run_laws.specs.Prelude.{Rules, first_stage, no_reader, reader_at, Session, Stage, reader-IsKind, Border, IsAnew, items-over, OverItems}
+use Rattle.lab_run.specs.Reader.{line_by}
 use Rattle.run_laws.proofs.Known.{May-known, known_at}
 use Rattle.run_laws.proofs.ReaderFrames.{IsOwnPast, HasFrames, LineHas, line-has}
 

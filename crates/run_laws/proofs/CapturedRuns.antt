@@ -1,20 +1,10 @@
 -- The runs of each reader of a run are of captured frames.
-use Rattle.std.proofs.Common.{◌≡◌, ℕ, ◌+◌, ◌-◌, ◌<◌, ◌≤◌, refl, sym, ◌∙◌, subst, arith, List, [], ◌∷◌, length}
-use Rattle.std.proofs.lemmas.Bool.{eqb-true}
-use Rattle.std.proofs.lemmas.Bool.Decides.{nat_tests}
-use Rattle.std.proofs.lemmas.List.{append-nil}
-use Rattle.std.specs.Prelude.{Bool, true, false, nat_eq, if◌then◌else◌}
-use Rattle.lab_lines.specs.Script.{first_frame}
-use Rattle.lab_run.specs.LabRun.{Outcome, all_runs, joined_runs, runs_of, with_numbers}
-use Rattle.lab_run.specs.OwnRows.{runs_by}
-use Rattle.lab_run.specs.Reader.{Reader}
-use Rattle.lab_run.specs.Rules.{AtPort}
-use Rattle.lab_run.specs.ScriptWords.{IsReached}
-use Rattle.lab_run.specs.Stage.{no_reader, reader_at}
+use Rattle.run_laws.specs.Prelude.{arith, length, List, refl, subst, sym, ℕ, [], ◌+◌, ◌-◌, ◌<◌, ◌∙◌, ◌∷◌, ◌≡◌, ◌≤◌, eqb-true, nat_tests, append-nil, Bool}
+use Rattle.run_laws.specs.Prelude.{false, if◌then◌else◌, nat_eq, true, first_frame, all_runs, joined_runs, Outcome, runs_of, with_numbers, runs_by, Reader}
+use Rattle.run_laws.specs.Prelude.{AtPort, IsReached, no_reader, reader_at, AreCapturedRuns, AreRisingFrames, ReadersCapture}
+use Rattle.run_laws.proofs.Captured.{AreWithin, reader_at-within, run-within}
 use Rattle.run_laws.proofs.OwnLines.{numbered-at}
 use Rattle.run_laws.proofs.OwnReaders.{runs-members}
-use Rattle.run_laws.specs.Captured.{AreCapturedRuns, AreRisingFrames, ReadersCapture}
-use Rattle.run_laws.proofs.Captured.{AreWithin, reader_at-within, run-within}
 use Rattle.run_laws.proofs.ReaderFrames.{HasFrames, rising-end, rising-later}
 use Rattle.run_laws.proofs.RowStages.{reached-reportable}
 

@@ -1,31 +1,12 @@
 -- What a line of a client is answered has a text in a report, and its state afterwards.
-use Rattle.std.proofs.Common.{◌≡◌, ℕ, subst, Option, Some, None}
-use Rattle.std.specs.Prelude.{[], Result, Ok, Err, IfSome, ⊤}
-use Rattle.snd_base.specs.declared.errors.PcmError.{PcmError}
-use Rattle.mix_core.specs.declared.marks.Marks.{Marks}
-use Rattle.pcm_states.specs.declared.calls.Call.{Call}
-use Rattle.pcm_states.specs.declared.calls.Call.TheVariants as call
-use Rattle.pcm_states.specs.declared.calls.Facts.{Facts}
-use Rattle.pcm_states.specs.declared.states.State.{State}
-use Rattle.pcm_states.specs.declared.states.State.TheVariants.{Draining, Prepared, Running}
-use Rattle.pcm_states.specs.Table.{next_of}
-use Rattle.pcm_stream.specs.declared.direction.Direction.TheVariants.{Playback}
-use Rattle.pcm_stream.specs.Status.{refusal_of}
-use Rattle.course.specs.Gives.{Gives, Gives-any, Gives-map}
-use Rattle.wav_io.specs.Sound.{Sound}
-use Rattle.dmix_client.specs.declared.stream.PlaybackStream.{PlaybackStream}
-use Rattle.dmix_client.specs.Calls.{Answered, committed_by, going_on, going_on_by, with_number, with_outcome}
-use Rattle.dmix_client.specs.Course.{commits}
-use Rattle.dmix_client.specs.EachCall.{CallLeaves, CountLeaves, IsStart, RewindLeaves, WriteLeaves, checks-done, rewind-counted}
-use Rattle.dmix_client.specs.Rewind.{take_frames, taken_back}
-use Rattle.dmix_client.specs.View.{ring_sample}
-use Rattle.lab_lines.specs.declared.line.Op.{Op}
-use Rattle.lab_lines.specs.declared.row.Answer.{Answer}
-use Rattle.lab_report.specs.Text.{HasStateText, HasText}
-use Rattle.lab_run.specs.Client.{Client, after_call, call_of, count_answer, done_answer, line_by}
+use Rattle.run_laws.specs.Prelude.{None, Option, Some, subst, ℕ, [], ◌≡◌, Err, IfSome, Ok, Result, ⊤, PcmError, Call, Facts, State, Draining, Prepared, Running}
+use Rattle.run_laws.specs.Prelude.{next_of, Playback, refusal_of, Marks, Gives, Gives-any, Gives-map, PlaybackStream, Answered, committed_by, going_on}
+use Rattle.run_laws.specs.Prelude.{going_on_by, with_number, with_outcome, commits, CallLeaves, checks-done, CountLeaves, IsStart, rewind-counted, RewindLeaves}
+use Rattle.run_laws.specs.Prelude.{WriteLeaves, take_frames, taken_back, ring_sample, Sound, Op, Answer, HasStateText, HasText, after_call, call_of, Client}
+use Rattle.run_laws.specs.Prelude.{count_answer, done_answer, line_by, client_line-gives}
 use Rattle.run_laws.proofs.EachCall.{call_of-gives, count_answer-gives}
-use Rattle.lab_run.proofs.EachLine.{client_line-gives}
 use Rattle.run_laws.proofs.TableLaws.{CanReport, CanReportIn, next-reports, refusal-reports, reported-reports}
+use Rattle.pcm_states.specs.declared.calls.Call.TheVariants as call
 
 -- a client's state has a text
 abbrev pub HasState : PlaybackStream → Type 0

@@ -1,19 +1,8 @@
 -- What the segments of a report placed is what each client placed.
-use Rattle.std.proofs.Common.{◌≡◌, ℕ, refl, sym, ◌∙◌, ap, subst, List, [], ◌∷◌, ◌++◌, length, Option, arith}
-use Rattle.std.specs.List.{flat_map, range_with_len}
-use Rattle.std.specs.Prelude.{◌+ℤ◌, pos, map}
-use Rattle.std.proofs.lemmas.Int.{ints}
-use Rattle.mix_core.specs.declared.port.Entry.{Entry}
-use Rattle.mix_core.specs.HistoryLaws.{fold-from, total-append}
-use Rattle.mix_core.specs.Laid.{sum_of_samples, total}
-use Rattle.wav_io.specs.Sound.{Sound}
-use Rattle.lab_lines.specs.declared.line.Item.{Item}
-use Rattle.lab_run.specs.Client.{Client, segments_of}
-use Rattle.lab_run.specs.LabRun.{LabRun, Outcome, entries_by, report_of}
-use Rattle.lab_run.specs.Rules.{AtPort}
-use Rattle.lab_run.specs.Stage.{Session}
+use Rattle.run_laws.specs.Prelude.{ap, arith, length, List, Option, refl, subst, sym, ℕ, [], ◌++◌, ◌∙◌, ◌∷◌, ◌≡◌, ints, flat_map, range_with_len, map, pos}
+use Rattle.run_laws.specs.Prelude.{◌+ℤ◌, Entry, fold-from, total-append, sum_of_samples, total, Sound, Item, Client, segments_of, entries_by, LabRun, Outcome}
+use Rattle.run_laws.specs.Prelude.{report_of, AtPort, Session, placed_entries}
 use Rattle.run_laws.specs.Clients.{IsSumOfClients, placed_by}
-use Rattle.run_laws.specs.Mix.{placed_entries}
 use Rattle.run_laws.proofs.Numbered.{numbered-parts}
 use Rattle.run_laws.proofs.Sizes.{run-size}
 

@@ -1,22 +1,13 @@
 -- How much a commit places, and a rewind leaves: no more than it was to, with a part of a frame below the number of channels.
 --     From-all      what all results of a course have, they have as far as its steps keep to p
 --     IsCommitOf      a commit of so many frames, by clients of so many channels
-use Rattle.std.proofs.Common.{◌≡◌, ℕ, ◌+◌, ◌<◌, ◌≤◌, refl, subst, arith, Some, None}
-use Rattle.std.proofs.lemmas.Bool.Decides.{nat_tests}
-use Rattle.std.specs.Prelude.{Bool, true, false, nat_eq, if◌then◌else◌, List, [], ◌∷◌, length, ℤ, zero, suc, ⊤}
-use Rattle.bindings.specs.Bound.{rising}
-use Rattle.mix_core.specs.declared.port.Ended.{Ended}
-use Rattle.mix_core.specs.declared.port.Ended.TheVariants as ended
-use Rattle.mix_core.specs.Port.{OnWhole}
-use Rattle.course.specs.Course.{Course, ends, gets, lays, loads}
-use Rattle.course.specs.Gives.{Gives, Gives-map, Gives-then}
-use Rattle.dmix_client.specs.declared.commit.Commit.{Commit}
-use Rattle.dmix_client.specs.declared.stream.PlaybackStream.{PlaybackStream}
-use Rattle.dmix_client.specs.Course.{commits, go_on, lay_each, lay_frame, lay_frames, lay_on, one_frame_more, one_more}
-use Rattle.dmix_client.specs.Rewind.{back_on, rewind_left, take_each, take_frames, take_on}
-use Rattle.dmix_client.specs.View.{ring_sample}
+use Rattle.run_laws.specs.Prelude.{arith, length, List, None, refl, Some, subst, ℕ, [], ◌+◌, ◌<◌, ◌∷◌, ◌≡◌, ◌≤◌, nat_tests, Bool, false, if◌then◌else◌, nat_eq}
+use Rattle.run_laws.specs.Prelude.{suc, true, zero, ℤ, ⊤, rising, Ended, OnWhole, Course, ends, gets, lays, loads, Gives, Gives-map, Gives-then, Commit}
+use Rattle.run_laws.specs.Prelude.{PlaybackStream, commits, go_on, lay_each, lay_frame, lay_frames, lay_on, one_frame_more, one_more, back_on, rewind_left}
+use Rattle.run_laws.specs.Prelude.{take_each, take_frames, take_on, ring_sample}
 use Rattle.run_laws.proofs.Onward.{Channels, begun, begun-most, channels-rise}
 use Rattle.run_laws.proofs.PlayedCourses.{From}
+use Rattle.mix_core.specs.declared.port.Ended.TheVariants as ended
 
 pub From-all : {X : Type 0} (p s : ℕ) (Q : X → Type 0) (c : Course X) → Gives Q c → From p (λ t x. Q x) s c
 From-all p s Q (ends x) all = all

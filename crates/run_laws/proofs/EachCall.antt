@@ -1,20 +1,10 @@
 -- What the answer of each call of a client has, as a report names it, by what holds of what the parts of the call end with.
-use Rattle.std.proofs.Common.{◌≡◌, ℕ, ◌-◌, refl}
-use Rattle.std.specs.Prelude.{[], min}
+use Rattle.run_laws.specs.Prelude.{refl, ℕ, [], ◌-◌, ◌≡◌, min, Marks, Course, ends, Gives, Gives-then, Commit, PlaybackStream, Answered, avail_answer}
+use Rattle.run_laws.specs.Prelude.{delay_answer, CallLeaves, CountLeaves, drain-done, drop-done, number-counted, pause-done, prepare-done, resume-done}
+use Rattle.run_laws.specs.Prelude.{rewindable-counted, start-done, sync-done, write-counted, WriteLeaves, Sound, Op, Answer, Failed, call_answer, call_of}
+use Rattle.run_laws.specs.Prelude.{count_answer, done_answer, frames_of}
 use Rattle.snd_base.specs.declared.errors.PcmError.TheVariants as error
-use Rattle.mix_core.specs.declared.marks.Marks.{Marks}
-use Rattle.course.specs.Course.{Course, ends}
-use Rattle.course.specs.Gives.{Gives, Gives-then}
-use Rattle.wav_io.specs.Sound.{Sound}
-use Rattle.dmix_client.specs.declared.commit.Commit.{Commit}
-use Rattle.dmix_client.specs.declared.stream.PlaybackStream.{PlaybackStream}
-use Rattle.dmix_client.specs.Calls.{Answered, avail_answer, delay_answer}
-use Rattle.dmix_client.specs.EachCall.{CallLeaves, CountLeaves, WriteLeaves, drain-done, drop-done, number-counted, pause-done, prepare-done, resume-done, rewindable-counted, start-done, sync-done, write-counted}
-use Rattle.lab_lines.specs.declared.line.Op.{Op}
 use Rattle.lab_lines.specs.declared.line.Op.TheVariants as op
-use Rattle.lab_lines.specs.declared.row.Answer.{Answer}
-use Rattle.lab_lines.specs.declared.row.Answer.TheVariants.{Failed}
-use Rattle.lab_run.specs.Client.{call_answer, call_of, count_answer, done_answer, frames_of}
 
 -- of an answer without a number, and with one
 pub done_answer-gives : (Done : Answered (Unit {0}) → Type 0) (Named : PlaybackStream × Answer → Type 0) (m : Course (Answered (Unit {0})))

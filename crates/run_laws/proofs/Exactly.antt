@@ -1,16 +1,7 @@
 -- A run that the script settles is the only one, and each actor does in it what it does by itself.
-use Rattle.std.proofs.Common.{◌≡◌, ℕ, sym, ap, ◌∙◌, subst, List, Option, arith}
-use Rattle.std.specs.Prelude.{Bool}
-use Rattle.wav_io.specs.Sound.{Sound}
-use Rattle.lab_lines.specs.declared.line.Actor.{Actor}
-use Rattle.lab_lines.specs.declared.line.Item.{Item}
-use Rattle.lab_lines.specs.declared.script.Script.{Script}
-use Rattle.lab_lines.specs.declared.report.Report.{Report}
-use Rattle.lab_run.specs.LabRun.{IsOneRun, LabRun, Outcome, lab_text}
-use Rattle.lab_run.specs.Openings.{IsSessionOf}
-use Rattle.lab_run.specs.OwnRows.{AreAlone, HaveLines, IsClientAlone, IsReaderAlone, answers_of, client_alone, client_part, rows_by}
-use Rattle.lab_run.specs.Phases.{AreUnmixed, is_client, is_reader}
-use Rattle.lab_run.specs.Stage.{Session}
+use Rattle.run_laws.specs.Prelude.{ap, arith, List, Option, subst, sym, ℕ, ◌∙◌, ◌≡◌, Bool, Sound, Actor, Item, Report, Script, IsOneRun, lab_text, LabRun}
+use Rattle.run_laws.specs.Prelude.{Outcome, IsSessionOf, answers_of, AreAlone, client_alone, client_part, HaveLines, IsClientAlone, IsReaderAlone, rows_by}
+use Rattle.run_laws.specs.Prelude.{AreUnmixed, is_client, is_reader, Session}
 use Rattle.run_laws.specs.Exact.{DoesTheSame, HasSameClient, IsExactRun, IsOwnRun, IsUnstoppedRun}
 use Rattle.run_laws.proofs.RowStages.{client_openings-size, reader_openings-size}
 

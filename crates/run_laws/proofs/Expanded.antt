@@ -1,20 +1,7 @@
 -- Right after a segment there is no sample of it.
-use Rattle.std.proofs.Common.{◌≡◌, ℕ, ◌+◌, ◌<◌, ◌≤◌, refl, ◌∙◌, ap, arith, List, [], ◌∷◌, ◌++◌, length, Option, Some, None}
-use Rattle.std.proofs.lemmas.Bool.{eq-eqb}
-use Rattle.std.proofs.lemmas.Bool.Decides.{nat_tests}
-use Rattle.std.specs.List.{flat_map, range_with_len}
-use Rattle.std.specs.Prelude.{ℤ, ◌==◌, false, true, zero, suc, map, slice_index, take, ⊤, slice_get, slice_index_or}
-use Rattle.snd_base.specs.declared.places.Segment.{Segment}
-use Rattle.bindings.specs.Bound.{rising}
-use Rattle.bindings.specs.RisingLaws.{rising_from-rises}
-use Rattle.mix_core.specs.declared.port.Entry.{Entry}
-use Rattle.mix_core.specs.declared.port.Kind.TheVariants.{Added}
-use Rattle.mix_core.specs.HistoryLaws.{at-append}
-use Rattle.mix_core.specs.Laid.{at}
-use Rattle.dmix_client.specs.Expansion.{expand, frame_entries, sample_at}
-use Rattle.wav_io.specs.Sound.{Sound}
-use Rattle.lab_run.specs.LabRun.{entries_by}
-use Rattle.lab_run.specs.Stage.{Session, Setup}
+use Rattle.run_laws.specs.Prelude.{ap, arith, length, List, None, Option, refl, Some, ℕ, [], ◌++◌, ◌+◌, ◌<◌, ◌∙◌, ◌∷◌, ◌≡◌, ◌≤◌, eq-eqb, nat_tests, flat_map}
+use Rattle.run_laws.specs.Prelude.{range_with_len, false, map, slice_get, slice_index, slice_index_or, suc, take, true, zero, ℤ, ⊤, ◌==◌, Segment, rising}
+use Rattle.run_laws.specs.Prelude.{rising_from-rises, Entry, Added, at-append, at, expand, frame_entries, sample_at, Sound, entries_by, Session, Setup}
 
 -- the sample of a client channel at a frame
 abbrev pub entry_of : ℕ → List ℕ → (ℕ → ℤ) → ℕ → ℕ → Entry

@@ -3,45 +3,28 @@
 --     HasLaid      what is accepted and placed is within a file of so many frames
 --     GoesAt      of a client that moves frames only whole frames are placed, and none that weren't accepted
 --     IsOfFile      both, of a client
-use Rattle.std.proofs.Common.{◌≡◌, ℕ, ◌+◌, ◌-◌, ◌<◌, ◌≤◌, ◌⊎◌, inl, inr, refl, sym, ◌∙◌, subst, arith, Option, Some}
-use Rattle.std.proofs.lemmas.Bool.{false≢true}
-use Rattle.std.specs.Prelude.{Bool, true, false, ◌&&◌, ◌||◌, nat_eq, nat_lt, if◌then◌else◌, is_some, List, [], length, ℤ, Ok, Err, IfOk, min, max, unwrap_or}
-use Rattle.snd_base.specs.declared.errors.PcmError.TheVariants as error
-use Rattle.snd_base.specs.declared.errors.XrunWhy.TheVariants as why
-use Rattle.snd_base.specs.declared.places.Cursor.{Cursor}
-use Rattle.snd_base.specs.Places.{first_free}
-use Rattle.mix_core.specs.declared.marks.Marks.{Marks}
-use Rattle.mix_core.specs.declared.port.Ended.{Ended}
-use Rattle.mix_core.specs.declared.port.Ended.TheVariants as ended
-use Rattle.mix_core.specs.declared.port.Position.{Position}
-use Rattle.mix_core.specs.Port.{OnWhole}
-use Rattle.pcm_states.specs.declared.calls.Call.{Call}
-use Rattle.pcm_states.specs.declared.calls.Call.TheVariants as call
+use Rattle.run_laws.specs.Prelude.{arith, inl, inr, length, List, Option, refl, Some, subst, sym, ℕ, [], ◌+◌, ◌-◌, ◌<◌, ◌∙◌, ◌≡◌, ◌≤◌, ◌⊎◌, false≢true, Bool}
+use Rattle.run_laws.specs.Prelude.{Err, false, IfOk, if◌then◌else◌, is_some, max, min, nat_eq, nat_lt, Ok, true, unwrap_or, ℤ, ◌&&◌, ◌||◌, Cursor, first_free}
+use Rattle.run_laws.specs.Prelude.{Call, State, Draining, Paused, Prepared, Running, next_of, Playback, is_moving, nothing_found, Marks, Ended, Position}
+use Rattle.run_laws.specs.Prelude.{OnWhole, Course, ends, Commit, PlaybackStream, Stretch, accepted_if, after_prepare, after_resume, after_start, after_sync}
+use Rattle.run_laws.specs.Prelude.{Answered, committed_by, end_channel, end_of_commit, facts_of, found_at, going_on, in_draining, is_prepared, is_running}
+use Rattle.run_laws.specs.Prelude.{is_stop, late_at, over_of, pending_of, seen_at, start_count, start_frame, started_in, stopped_in, sync_count, taken_of}
+use Rattle.run_laws.specs.Prelude.{window_end, with_accepted, with_new_base, with_number, with_outcome, written_after, commits, drain_on, if_admitted, nothing}
+use Rattle.run_laws.specs.Prelude.{pause_course, resumes, starts, syncs, takes_more, write_on, IsFrameStep, after_rewind, back_of, checks, last_channel}
+use Rattle.run_laws.specs.Prelude.{last_laid, rewind_on, rewindable_of, take_frames, taken_back, takes_back, without_frames, avail_of, queued_of, ring_sample}
+use Rattle.run_laws.specs.Prelude.{count_with, ring_with, Sound, Op, call_answer, call_of, done_answer, frames_of, call_of-says, done_answer-says, empty-still}
+use Rattle.run_laws.specs.Prelude.{if_admitted-says, is_new_stretch, Parts, running-moves, running-transfers, start-unprepared, step-moves}
 use Rattle.pcm_states.specs.declared.calls.Outcome.{Outcome}
-use Rattle.pcm_states.specs.declared.states.State.{State}
-use Rattle.pcm_states.specs.declared.states.State.TheVariants.{Draining, Paused, Prepared, Running, Setup}
-use Rattle.pcm_states.specs.Table.{next_of}
-use Rattle.pcm_stream.specs.declared.direction.Direction.TheVariants.{Playback}
-use Rattle.pcm_stream.specs.Status.{is_moving, nothing_found}
-use Rattle.course.specs.Course.{Course, ends}
-use Rattle.dmix_client.specs.declared.commit.Commit.{Commit}
-use Rattle.dmix_client.specs.declared.stream.PlaybackStream.{PlaybackStream}
-use Rattle.dmix_client.specs.declared.stream.Stretch.{Stretch}
-use Rattle.dmix_client.specs.Calls.{Answered, accepted_if, after_prepare, after_resume, after_start, after_sync, committed_by, end_channel, end_of_commit, facts_of, found_at, going_on, in_draining, is_prepared, is_running, is_stop, late_at, over_of, pending_of, seen_at, start_count, start_frame, started_in, stopped_in, sync_count, taken_of, window_end, with_accepted, with_new_base, with_number, with_outcome, written_after}
-use Rattle.dmix_client.specs.Course.{commits, drain_on, if_admitted, nothing, pause_course, resumes, starts, syncs, takes_more, write_on}
-use Rattle.dmix_client.specs.Port.{IsFrameStep}
-use Rattle.dmix_client.specs.Rewind.{after_rewind, back_of, checks, last_channel, last_laid, rewind_on, rewindable_of, take_frames, taken_back, takes_back, without_frames}
-use Rattle.dmix_client.specs.View.{avail_of, queued_of, ring_sample}
-use Rattle.dmix_client.specs.Writes.{count_with, ring_with}
-use Rattle.lab_lines.specs.declared.line.Op.{Op}
-use Rattle.lab_lines.specs.declared.line.Op.TheVariants as op
-use Rattle.wav_io.specs.Sound.{Sound}
-use Rattle.lab_run.specs.Client.{call_answer, call_of, done_answer, frames_of}
-use Rattle.lab_run.proofs.CallParts.{Parts, call_of-says, done_answer-says, empty-still, if_admitted-says, is_new_stretch, running-moves, running-transfers, start-unprepared, step-moves}
+use Rattle.pcm_states.specs.declared.states.State.TheVariants.{Setup}
 use Rattle.run_laws.proofs.CommitCounts.{From-all, IsCommitOf, commits-few, frames-left, nothing-of}
 use Rattle.run_laws.proofs.Onward.{Channels, begun, stepped-unprepared}
 use Rattle.run_laws.proofs.PlayedCalls.{IfOk-any, IfOk-none, IsOver, step-over, step-unprepared}
 use Rattle.run_laws.proofs.PlayedCourses.{From, FromSo, From-map, From-then, found-from, from-so}
+use Rattle.snd_base.specs.declared.errors.PcmError.TheVariants as error
+use Rattle.snd_base.specs.declared.errors.XrunWhy.TheVariants as why
+use Rattle.mix_core.specs.declared.port.Ended.TheVariants as ended
+use Rattle.pcm_states.specs.declared.calls.Call.TheVariants as call
+use Rattle.lab_lines.specs.declared.line.Op.TheVariants as op
 
 -- ---- a client
 

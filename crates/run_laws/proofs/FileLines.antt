@@ -1,47 +1,24 @@
 -- What each line of a client leaves: its stretch is of its file, and so is each one that ended.
-use Rattle.std.proofs.Common.{◌≡◌, ℕ, ◌+◌, ◌-◌, ◌<◌, ◌≤◌, ◌⊎◌, inl, inr, refl, sym, ◌∙◌, ap, subst, arith, List, [], ◌∷◌, ◌++◌, length, Option, Some, None}
-use Rattle.std.proofs.lemmas.Bool.Decides.{nat_tests}
-use Rattle.std.proofs.lemmas.List.{append-nil}
-use Rattle.std.specs.List.{AllByRecursion}
-use Rattle.std.specs.Prelude.{Bool, true, false, not, ◌&&◌, nat_eq, if◌then◌else◌, min, IfSome, Contains, slice_index_or, map, slice_get}
-use Rattle.mix_core.specs.declared.marks.Marks.{Marks}
-use Rattle.pcm_states.specs.declared.states.State.TheVariants.{Prepared}
-use Rattle.course.specs.Course.{◌>>=◌, ends}
-use Rattle.wav_io.specs.Sound.{Sound}
-use Rattle.dmix_client.specs.declared.stream.PlaybackStream.{PlaybackStream}
-use Rattle.dmix_client.specs.Calls.{is_paused, segment_of}
-use Rattle.lab_lines.specs.declared.line.Op.{Op}
-use Rattle.lab_lines.specs.declared.line.Op.TheVariants as op
-use Rattle.lab_lines.specs.declared.row.Answer.{Answer}
-use Rattle.lab_lines.specs.declared.row.Answer.TheVariants.{Done}
-use Rattle.lab_lines.specs.Script.{first_frame}
-use Rattle.lab_run.specs.Client.{Client, after_call, call_of, client_kind, ended_by, frames_of, present_of, segments_of, stretch_of}
-use Rattle.lab_run.specs.Items.{no_sound}
-use Rattle.lab_run.specs.Lines.{LineMay}
-use Rattle.lab_run.specs.Rules.{AtPort, Rules}
-use Rattle.lab_run.specs.Stage.{Session, Setup, opened_client}
+use Rattle.run_laws.specs.Prelude.{ap, arith, inl, inr, length, List, None, Option, refl, Some, subst, sym, ℕ, [], ◌++◌, ◌+◌, ◌-◌, ◌<◌, ◌∙◌, ◌∷◌, ◌≡◌, ◌≤◌, ◌⊎◌}
+use Rattle.run_laws.specs.Prelude.{nat_tests, append-nil, All-from_recursion, get_or_from_slice_get, AllByRecursion, Bool, Contains, false, IfSome}
+use Rattle.run_laws.specs.Prelude.{if◌then◌else◌, map, min, nat_eq, not, slice_get, slice_index_or, true, ◌&&◌, Segment, Prepared, Marks, ends, ◌>>=◌}
+use Rattle.run_laws.specs.Prelude.{PlaybackStream, is_paused, segment_of, Sound, Op, Answer, Done, CardLine, Script, IsScript, first_frame, after_call, call_of}
+use Rattle.run_laws.specs.Prelude.{Client, client_kind, ended_by, frames_of, present_of, segments_of, stretch_of, no_sound, all_segments, LabRun, Outcome}
+use Rattle.run_laws.specs.Prelude.{with_numbers, LineMay, IsSessionOf, AtPort, Rules, opened_client, Session, Setup, AreBound}
 use Rattle.run_laws.specs.Segments.{IsOfFrames, AreOfClients, IsOfClient}
 use Rattle.run_laws.proofs.Bound.{HasBindings, line-bound}
+use Rattle.run_laws.proofs.BoundChannels.{script-bound, setup-channels}
 use Rattle.run_laws.proofs.FileCalls.{FileAfter, IsOfFile, call-after, idle-goes}
+use Rattle.run_laws.proofs.FromFiles.{IsUsed, clients-used, idle-segments, opened-at}
 use Rattle.run_laws.proofs.Going.{still-client, in-open}
+use Rattle.run_laws.proofs.Lists.{each-append}
 use Rattle.run_laws.proofs.NumberedStages.{IsKeptBy, AreSoBy, numbered-so}
 use Rattle.run_laws.proofs.Onward.{Channels, begun}
 use Rattle.run_laws.proofs.OnwardLines.{InOpen}
 use Rattle.run_laws.proofs.PlayedCourses.{From, From-then, line-from}
-use Rattle.run_laws.proofs.Lists.{each-append}
-use Rattle.std.proofs.lemmas.List.Elements.{All-from_recursion}
-use Rattle.std.proofs.lemmas.Option.{get_or_from_slice_get}
-use Rattle.snd_base.specs.declared.places.Segment.{Segment}
-use Rattle.lab_lines.specs.declared.script.CardLine.{CardLine}
-use Rattle.lab_lines.specs.declared.script.Script.{Script}
-use Rattle.lab_lines.specs.Limits.{IsScript}
-use Rattle.lab_run.specs.LabRun.{LabRun, Outcome, all_segments, with_numbers}
-use Rattle.lab_run.specs.Openings.{IsSessionOf}
-use Rattle.run_laws.specs.OneSample.{AreBound}
-use Rattle.run_laws.proofs.BoundChannels.{script-bound, setup-channels}
-use Rattle.run_laws.proofs.FromFiles.{IsUsed, clients-used, idle-segments, opened-at}
 use Rattle.run_laws.proofs.PlayedStages.{channels-of}
 use Rattle.run_laws.proofs.Stages.{AreSo, reached-so}
+use Rattle.lab_lines.specs.declared.line.Op.TheVariants as op
 
 -- ---- a line of an open client
 

@@ -1,29 +1,9 @@
 -- A report's segments are of clients that could be opened, each with its line and its file.
-use Rattle.std.proofs.Common.{◌≡◌, ℕ, ◌+◌, ◌*◌, ◌<◌, refl, sym, ◌∙◌, ap, subst, List, [], ◌∷◌, ◌++◌, Option, Some, None}
-use Rattle.std.proofs.lemmas.List.Concat.{flat_map-append}
-use Rattle.std.specs.List.{flat_map}
-use Rattle.std.specs.Prelude.{ℤ, pos, zero, suc, map, slice_get, slice_index_or, ⊤}
-use Rattle.snd_base.specs.declared.places.Segment.{Segment}
-use Rattle.lap_word.specs.Clamp.{clamp_of}
-use Rattle.mix_core.specs.declared.port.Entry.{Entry}
-use Rattle.mix_core.specs.Laid.{total}
-use Rattle.wav_io.specs.Sound.{Sound}
-use Rattle.dmix_client.specs.Expansion.{expand}
-use Rattle.lab_lines.specs.declared.line.Op.{Op}
-use Rattle.lab_lines.specs.declared.script.CardLine.{CardLine}
-use Rattle.lab_lines.specs.declared.script.ClientLine.{ClientLine}
-use Rattle.lab_lines.specs.declared.script.Script.{Script}
-use Rattle.lab_lines.specs.Script.{first_frame}
-use Rattle.lab_lines.specs.declared.report.Report.{Report}
-use Rattle.lab_lines.specs.declared.row.Answer.{Answer}
-use Rattle.lab_run.specs.Client.{Client, client_kind, segments_of}
-use Rattle.lab_run.specs.LabRun.{LabRun, Outcome, entries_by, with_numbers}
-use Rattle.lab_run.specs.Lines.{LineMay}
-use Rattle.lab_run.specs.Openings.{AreClientOpenings, IsClientSetup, IsSessionOf}
-use Rattle.lab_run.specs.Rules.{AtPort, Rules}
-use Rattle.lab_run.specs.Stage.{Session, Setup}
+use Rattle.run_laws.specs.Prelude.{ap, List, None, Option, refl, Some, subst, sym, ℕ, [], ◌*◌, ◌++◌, ◌+◌, ◌<◌, ◌∙◌, ◌∷◌, ◌≡◌, flat_map-append, flat_map, map}
+use Rattle.run_laws.specs.Prelude.{pos, slice_get, slice_index_or, suc, zero, ℤ, ⊤, Segment, clamp_of, Entry, total, expand, Sound, Op, Report, Answer}
+use Rattle.run_laws.specs.Prelude.{CardLine, ClientLine, Script, first_frame, Client, client_kind, segments_of, entries_by, LabRun, Outcome, with_numbers}
+use Rattle.run_laws.specs.Prelude.{LineMay, AreClientOpenings, IsClientSetup, IsSessionOf, AtPort, Rules, Session, Setup, IsMixOf}
 use Rattle.run_laws.specs.Files.{IsMixOfFiles, IsPlacedFrom, file_samples}
-use Rattle.run_laws.specs.Mix.{IsMixOf}
 use Rattle.run_laws.proofs.Going.{still-client}
 use Rattle.run_laws.proofs.Stages.{AreSo, IsKept, reached-so}
 

@@ -1,20 +1,10 @@
 -- What goes on past a frame goes on past those before it; and a client that isn't open stays as it is.
-use Rattle.std.proofs.Common.{◌≡◌, ℕ, ◌≤◌, inl, inr, sym, ◌∙◌, refl, subst, arith, Option, Some, None}
-use Rattle.std.proofs.lemmas.Bool.{false≢true}
-use Rattle.std.specs.Prelude.{false, ◌&&◌, nat_eq, max, IfSome}
-use Rattle.snd_base.specs.declared.errors.PcmError.TheVariants as error
-use Rattle.mix_core.specs.declared.marks.Marks.{Marks}
-use Rattle.course.specs.Gives.{Gives, Gives-taken}
-use Rattle.wav_io.specs.Sound.{Sound}
-use Rattle.dmix_client.specs.declared.stream.PlaybackStream.{PlaybackStream}
-use Rattle.lab_lines.specs.declared.line.Op.{Op}
-use Rattle.lab_lines.specs.declared.row.Answer.{Answer}
-use Rattle.lab_lines.specs.declared.row.Answer.TheVariants.{Failed}
-use Rattle.lab_run.specs.Client.{Client, begins, client_kind, line_by}
-use Rattle.lab_run.specs.Lines.{LineMay}
-use Rattle.lab_run.specs.Rules.{AtPort, MayGet, MayLay, MayLoad, Rules}
+use Rattle.run_laws.specs.Prelude.{arith, inl, inr, None, Option, refl, Some, subst, sym, ℕ, ◌∙◌, ◌≡◌, ◌≤◌, false≢true, false, IfSome, max, nat_eq, ◌&&◌, Marks}
+use Rattle.run_laws.specs.Prelude.{Gives, Gives-taken, PlaybackStream, Sound, Op, Answer, Failed, begins, Client, client_kind, line_by, LineMay, AtPort, MayGet}
+use Rattle.run_laws.specs.Prelude.{MayLay, MayLoad, Rules}
 use Rattle.run_laws.proofs.Onward.{Lies, Onward, end_of, free_frame, high_end}
 use Rattle.run_laws.proofs.OnwardLines.{InOpen, waits-none}
+use Rattle.snd_base.specs.declared.errors.PcmError.TheVariants as error
 
 lies-less : (p q x y v w card e : ℕ) (m : Marks) → p ≤ q → v ≤ x → w ≤ y → Lies p x y card e e m → Lies q v w card e e m
 lies-less p q x y v w card e m later less lower lies = record {

@@ -1,25 +1,12 @@
 -- An item of a body leaves the rows and each reader's frames, with some more after them; an opening or a closing leaves the frames alone.
-use Rattle.std.proofs.Common.{◌≡◌, ℕ, ◌+◌, refl, sym, ◌∙◌, ap, subst, append_assoc, List, [], ◌∷◌, ◌++◌, map, zero, suc, Some, None}
-use Rattle.std.proofs.lemmas.List.{append-nil}
-use Rattle.std.specs.Prelude.{drop, slice_index_or, slice_set}
-use Rattle.std.specs.List.{range_with_len}
-use Rattle.snd_base.specs.declared.geometry.Geometry.{Geometry}
-use Rattle.lab_lines.specs.declared.line.Item.{Item}
-use Rattle.lab_lines.specs.declared.line.Item.TheVariants as item
-use Rattle.lab_lines.specs.declared.line.Line.{Line}
-use Rattle.lab_lines.specs.declared.line.Op.{Op}
-use Rattle.lab_lines.specs.declared.row.Row.{Row}
-use Rattle.lab_run.specs.Items.{ItemMay, PhaseMay, reader_kinds, reaped_reader, rules_of}
-use Rattle.lab_run.specs.Lines.{EachMay, LinesMay}
-use Rattle.lab_run.specs.Phases.{is_reader, ops_by}
-use Rattle.lab_run.specs.Reader.{Reader, reader_kind}
-use Rattle.lab_run.specs.Rules.{AtPort, Rules}
-use Rattle.lab_run.specs.Stage.{Session, Setup, Stage, ended_reader, no_reader}
-use Rattle.lab_run.proofs.RowsGrow.{HasMore, items-more}
+use Rattle.run_laws.specs.Prelude.{ap, List, None, refl, Some, subst, sym, ℕ, [], ◌++◌, ◌+◌, ◌∙◌, ◌∷◌, ◌≡◌, append-nil, append_assoc, range_with_len, drop, map}
+use Rattle.run_laws.specs.Prelude.{slice_index_or, slice_set, suc, zero, Geometry, Item, Line, Op, Row, ItemMay, PhaseMay, reader_kinds, reaped_reader}
+use Rattle.run_laws.specs.Prelude.{rules_of, EachMay, LinesMay, is_reader, ops_by, Reader, reader_kind, AtPort, Rules, ended_reader, no_reader, Session, Setup}
+use Rattle.run_laws.specs.Prelude.{Stage, HasMore, items-more, AreGrown, BordersKeepFrames, frames_of_readers, IsGrownReader, StagesGrow}
 use Rattle.run_laws.proofs.HeldReaders.{closing-held, reader_opened, opening-held, read_at}
 use Rattle.run_laws.proofs.SliceItems.{reaped-frames}
 use Rattle.run_laws.proofs.SliceLines.{lines-get_slices}
-use Rattle.run_laws.specs.Growth.{AreGrown, BordersKeepFrames, IsGrownReader, StagesGrow, frames_of_readers}
+use Rattle.lab_lines.specs.declared.line.Item.TheVariants as item
 
 -- ---- the lines of a phase
 

@@ -1,25 +1,13 @@
 -- What is so of a run's readers in each of its stages.
-use Rattle.std.proofs.Common.{◌≡◌, ℕ, ◌+◌, ◌<◌, refl, sym, subst, arith, List, [], ◌∷◌, ◌++◌, length, Option, Some, None}
-use Rattle.std.proofs.lemmas.List.{append_assoc, length-append}
-use Rattle.std.specs.Prelude.{Bool, true, false, map, slice_index_or, slice_set, Result, Ok, Err}
-use Rattle.snd_base.specs.declared.errors.PcmError.{PcmError}
-use Rattle.dmix_client.specs.declared.stream.PlaybackStream.{PlaybackStream}
-use Rattle.dsnoop_client.specs.declared.stream.CaptureStream.{CaptureStream}
-use Rattle.lab_lines.specs.declared.line.Actor.{Actor}
-use Rattle.lab_lines.specs.declared.line.Actor.TheVariants as actor
-use Rattle.lab_lines.specs.declared.line.Item.{Item}
-use Rattle.lab_lines.specs.declared.line.Item.TheVariants as item
-use Rattle.lab_lines.specs.declared.line.Op.{Op}
-use Rattle.lab_lines.specs.declared.row.Answer.{Answer}
-use Rattle.lab_run.specs.Claims.{claim_refusal}
-use Rattle.lab_run.specs.Items.{ItemMay, ItemsMay, is_reader_stopped, reader_kinds, reaped_reader, reaped_reader_if, rules_of}
-use Rattle.lab_run.specs.Lines.{LineMay}
-use Rattle.lab_run.specs.Phases.{is_reader, ops_by}
-use Rattle.lab_run.specs.Places.{Lobby, after_attach}
-use Rattle.lab_run.specs.Reader.{Reader, reader_kind}
-use Rattle.lab_run.specs.Rules.{AtPort, Rules}
-use Rattle.lab_run.specs.Stage.{Session, Setup, Stage, after_close, after_open, attached_client, claimed_client, client_at, close_client, close_reader, ended_reader, no_reader, open_client, open_client_with, open_reader, open_reader_with, opened_reader, reader_at, renewed_port}
+use Rattle.run_laws.specs.Prelude.{arith, length, List, None, Option, refl, Some, subst, sym, ℕ, [], ◌++◌, ◌+◌, ◌<◌, ◌∷◌, ◌≡◌, append_assoc, length-append}
+use Rattle.run_laws.specs.Prelude.{Bool, Err, false, map, Ok, Result, slice_index_or, slice_set, true, PcmError, PlaybackStream, CaptureStream, Actor, Item, Op}
+use Rattle.run_laws.specs.Prelude.{Answer, claim_refusal, is_reader_stopped, ItemMay, ItemsMay, reader_kinds, reaped_reader, reaped_reader_if, rules_of}
+use Rattle.run_laws.specs.Prelude.{LineMay, is_reader, ops_by, after_attach, Lobby, Reader, reader_kind, AtPort, Rules, after_close, after_open}
+use Rattle.run_laws.specs.Prelude.{attached_client, claimed_client, client_at, close_client, close_reader, ended_reader, no_reader, open_client}
+use Rattle.run_laws.specs.Prelude.{open_client_with, open_reader, open_reader_with, opened_reader, reader_at, renewed_port, Session, Setup, Stage}
 use Rattle.run_laws.proofs.Stages.{each-walked, middle-at, middle-set}
+use Rattle.lab_lines.specs.declared.line.Actor.TheVariants as actor
+use Rattle.lab_lines.specs.declared.line.Item.TheVariants as item
 
 -- the reader of a number
 abbrev pub read_at : Session → List (AtPort × Reader) → ℕ → AtPort × Reader

@@ -1,21 +1,11 @@
 -- A reader that couldn't be opened has no frames.
-use Rattle.std.proofs.Common.{◌≡◌, ℕ, refl, sym, ◌∙◌, ap, subst, arith, List, [], ◌∷◌, Option, Some, None}
-use Rattle.std.specs.Prelude.{zero, suc, map, slice_index_or, slice_set}
-use Rattle.course.specs.Gives.{Gives, Gives-taken}
-use Rattle.lab_lines.specs.declared.line.Item.{Item}
-use Rattle.lab_lines.specs.declared.line.Op.{Op}
-use Rattle.lab_lines.specs.declared.row.Answer.{Answer}
-use Rattle.lab_run.specs.LabRun.{LabRun, Outcome, runs_of, with_numbers}
-use Rattle.lab_run.specs.Lines.{LineMay}
-use Rattle.lab_run.specs.OwnRows.{runs_by}
-use Rattle.lab_run.specs.Reader.{Reader, begins, line_by, reader_kind}
-use Rattle.lab_run.specs.Rules.{AtPort, MayGet, MayLay, MayLoad, Rules}
-use Rattle.lab_run.specs.Stage.{Session, Setup, first_stage, no_reader, reader_at}
-use Rattle.wav_io.specs.Sound.{Sound}
-use Rattle.run_laws.specs.Recordings.{UnopenedHaveNoRuns}
+use Rattle.run_laws.specs.Prelude.{ap, arith, List, None, Option, refl, Some, subst, sym, ℕ, [], ◌∙◌, ◌∷◌, ◌≡◌, map, slice_index_or, slice_set, suc, zero}
+use Rattle.run_laws.specs.Prelude.{Gives, Gives-taken, Sound, Item, Op, Answer, LabRun, Outcome, runs_of, with_numbers, LineMay, runs_by, Reader, reader_kind}
+use Rattle.run_laws.specs.Prelude.{AtPort, MayGet, MayLay, MayLoad, Rules, first_stage, no_reader, reader_at, Session, Setup, UnopenedHaveNoRuns}
+use Rattle.lab_run.specs.Reader.{begins, line_by}
+use Rattle.run_laws.proofs.HeldReaders.{IsLastingOfReaders, read_at, readers-held}
 use Rattle.run_laws.proofs.Numbered.{numbered-at}
 use Rattle.run_laws.proofs.OwnReaders.{runs-members}
-use Rattle.run_laws.proofs.HeldReaders.{IsLastingOfReaders, read_at, readers-held}
 use Rattle.run_laws.proofs.Stages.{set-fact}
 
 abbrev IsIdle : Reader → Type 0

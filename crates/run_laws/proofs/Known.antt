@@ -1,13 +1,6 @@
 -- What all results of a course have, by the last position that is known when it ends.
-use Rattle.std.proofs.Common.{◌≡◌, ℕ, ◌≤◌, sym, ◌∙◌, ap, subst, arith, Some, None}
-use Rattle.std.specs.Prelude.{max, All}
-use Rattle.std.proofs.lemmas.List.Elements.{All-contains}
-use Rattle.mix_core.specs.declared.port.Ended.{Ended}
-use Rattle.mix_core.specs.declared.port.Position.{Position}
-use Rattle.snoop_core.specs.declared.port.Got.{Got}
-use Rattle.course.specs.Course.{◌>>=◌, Course, ends, gets, lays, loads}
-use Rattle.lab_run.specs.Rules.{AtPort, May, Rules}
-use Rattle.lab_run.proofs.CallParts.{IsSaying}
+use Rattle.run_laws.specs.Prelude.{ap, arith, None, Some, subst, sym, ℕ, ◌∙◌, ◌≡◌, ◌≤◌, All-contains, All, max, Ended, Position, Got, Course, ends, gets, lays}
+use Rattle.run_laws.specs.Prelude.{loads, ◌>>=◌, AtPort, May, Rules, IsSaying}
 use Rattle.run_laws.proofs.RunGoesOn.{get-seen, lay-seen, stop-seen}
 
 -- a load gives a position that isn't below the one that is known, and that one is known from then on

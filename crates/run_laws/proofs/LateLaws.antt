@@ -1,23 +1,10 @@
 -- What is late in an error, an answer or an outcome of the table.
-use Rattle.std.proofs.Common.{◌≡◌, ℕ, refl, sym, subst, Option, Some, None}
-use Rattle.std.specs.Prelude.{Bool, true, false, if◌then◌else◌, Result, Ok, Err, IfSome, ⊤}
-use Rattle.snd_base.specs.declared.errors.PcmError.{PcmError}
-use Rattle.snd_base.specs.declared.errors.PcmError.TheVariants as error
-use Rattle.snd_base.specs.declared.errors.XrunWhy.{XrunWhy}
-use Rattle.snd_base.specs.declared.errors.XrunWhy.TheVariants as why
-use Rattle.pcm_states.specs.declared.calls.Call.{Call}
-use Rattle.pcm_states.specs.declared.calls.Facts.{Facts}
+use Rattle.run_laws.specs.Prelude.{None, Option, refl, Some, subst, sym, ℕ, ◌≡◌, Bool, Err, false, IfSome, if◌then◌else◌, Ok, Result, true, ⊤, PcmError}
+use Rattle.run_laws.specs.Prelude.{XrunWhy, Call, Facts, State, Xrun, next_of, stopped_by, Cases, next_of-holds, Playback, is_refusal, nothing_found}
+use Rattle.run_laws.specs.Prelude.{refusal_in, refusal_of, PlaybackStream, Answer, Failed, reported_error}
 use Rattle.pcm_states.specs.declared.calls.Outcome.{Outcome}
-use Rattle.pcm_states.specs.declared.states.State.{State}
-use Rattle.pcm_states.specs.declared.states.State.TheVariants.{Xrun}
-use Rattle.pcm_states.specs.Table.{next_of, stopped_by}
-use Rattle.pcm_states.specs.TableLaws.{Cases, next_of-holds}
-use Rattle.dmix_client.specs.declared.stream.PlaybackStream.{PlaybackStream}
-use Rattle.pcm_stream.specs.declared.direction.Direction.TheVariants.{Playback}
-use Rattle.pcm_stream.specs.Status.{is_refusal, nothing_found, refusal_in, refusal_of}
-use Rattle.lab_lines.specs.declared.row.Answer.{Answer}
-use Rattle.lab_lines.specs.declared.row.Answer.TheVariants.{Failed}
-use Rattle.lab_run.specs.Client.{reported_error}
+use Rattle.snd_base.specs.declared.errors.PcmError.TheVariants as error
+use Rattle.snd_base.specs.declared.errors.XrunWhy.TheVariants as why
 
 -- ---- a fact of the place that an error, an answer or a fact of the table names, if it is late
 

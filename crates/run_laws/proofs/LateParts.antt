@@ -1,37 +1,18 @@
 -- What a call of a client leaves where it is late: the place that it names, and XRUN; of a rewind the last sample that it couldn't take back,
 -- and else the first sample that isn't placed, which is of a frame that isn't placed whole. Each call keeps its client's bindings.
-use Rattle.std.proofs.Common.{◌≡◌, ℕ, ◌+◌, ◌<◌, sym, ◌∙◌, ap, subst, arith, None, length, refl, Option, Some}
-use Rattle.std.proofs.lemmas.Bool.{false≢true}
-use Rattle.std.specs.Prelude.{false, List, [], ◌∷◌, ℤ, Result, Ok, Err, IfSome, ⊤, zero, suc, Bool, true, nat_eq, if◌then◌else◌, length}
-use Rattle.snd_base.specs.declared.errors.PcmError.{PcmError}
-use Rattle.bindings.specs.Bound.{rising}
-use Rattle.mix_core.specs.declared.marks.Marks.{Marks}
-use Rattle.mix_core.specs.declared.port.Ended.{Ended}
-use Rattle.mix_core.specs.declared.port.Ended.TheVariants as ended
-use Rattle.pcm_states.specs.declared.calls.Call.{Call}
-use Rattle.pcm_states.specs.declared.calls.Call.TheVariants as call
-use Rattle.pcm_states.specs.declared.calls.Facts.{Facts}
-use Rattle.pcm_states.specs.declared.states.State.{State}
-use Rattle.pcm_states.specs.declared.states.State.TheVariants.{Prepared, Running, Xrun}
-use Rattle.pcm_states.specs.Table.{next_of}
-use Rattle.course.specs.Course.{ends}
-use Rattle.course.specs.Gives.{Gives, Gives-then, Gives-map}
-use Rattle.wav_io.specs.Sound.{Sound}
-use Rattle.dmix_client.specs.declared.commit.Commit.{Commit}
-use Rattle.dmix_client.specs.declared.stream.PlaybackStream.{PlaybackStream}
-use Rattle.dmix_client.specs.Calls.{Answered, committed_by, end_channel, end_of_commit, going_on_by, late_at, late_of, with_number, with_outcome, facts_of, over_of, seen_at, after_sync}
-use Rattle.dmix_client.specs.Course.{commits, go_on, lay_each, lay_frame, lay_frames, lay_on, one_frame_more, one_more, nothing}
-use Rattle.dmix_client.specs.EachCall.{CallLeaves, CountLeaves, RewindLeaves, WriteLeaves, rewind-counted}
-use Rattle.dmix_client.specs.Rewind.{take_frames, taken_back, back_on, checks, last_channel, last_laid, rewind_left, take_each, take_on}
-use Rattle.dmix_client.specs.View.{ring_sample}
-use Rattle.lab_lines.specs.declared.line.Op.{Op}
-use Rattle.lab_lines.specs.declared.line.Op.TheVariants as op
-use Rattle.lab_lines.specs.declared.row.Answer.{Answer}
-use Rattle.lab_run.specs.Client.{call_of, count_answer, done_answer}
-use Rattle.run_laws.specs.LateRows.{is_rewind, IsLastSample, IsNextSample}
+use Rattle.run_laws.specs.Prelude.{ap, arith, length, List, None, Option, refl, Some, subst, sym, ℕ, [], ◌+◌, ◌<◌, ◌∙◌, ◌∷◌, ◌≡◌, false≢true, Bool, Err, false}
+use Rattle.run_laws.specs.Prelude.{IfSome, if◌then◌else◌, nat_eq, Ok, Result, suc, true, zero, ℤ, ⊤, PcmError, rising, Call, Facts, State, Prepared, Running}
+use Rattle.run_laws.specs.Prelude.{Xrun, next_of, Marks, Ended, Position, ends, Gives, Gives-map, Gives-then, Commit, PlaybackStream, after_sync, Answered}
+use Rattle.run_laws.specs.Prelude.{committed_by, end_channel, end_of_commit, facts_of, going_on_by, late_at, late_of, over_of, seen_at, with_number}
+use Rattle.run_laws.specs.Prelude.{with_outcome, commits, go_on, lay_each, lay_frame, lay_frames, lay_on, nothing, one_frame_more, one_more, CallLeaves}
+use Rattle.run_laws.specs.Prelude.{CountLeaves, rewind-counted, RewindLeaves, WriteLeaves, back_on, checks, last_channel, last_laid, rewind_left, take_each}
+use Rattle.run_laws.specs.Prelude.{take_frames, take_on, taken_back, ring_sample, Sound, Op, Answer, call_of, count_answer, done_answer, is_rewind}
+use Rattle.run_laws.specs.Prelude.{IsLastSample, IsNextSample}
 use Rattle.run_laws.proofs.EachCall.{call_of-gives, count_answer-gives}
 use Rattle.run_laws.proofs.LateLaws.{LateAnswer-less, LateAnswer, LateIn, LateWhy, facts-late, refused-late, reported-late, next-late}
-use Rattle.mix_core.specs.declared.port.Position.{Position}
+use Rattle.mix_core.specs.declared.port.Ended.TheVariants as ended
+use Rattle.pcm_states.specs.declared.calls.Call.TheVariants as call
+use Rattle.lab_lines.specs.declared.line.Op.TheVariants as op
 
 -- ---- what a commit placed of a frame
 

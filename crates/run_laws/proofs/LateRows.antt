@@ -1,25 +1,12 @@
 -- The rows of late lines: they name the first sample that their clients haven't placed, or of a rewind the last that it couldn't take back, and
 -- leave their clients in XRUN.
-use Rattle.std.proofs.Common.{◌≡◌, ℕ, refl, sym, subst, Option, Some, None}
-use Rattle.std.specs.Prelude.{IfSome, List}
-use Rattle.snd_base.specs.declared.errors.PcmError.TheVariants as error
-use Rattle.mix_core.specs.declared.marks.Marks.{Marks}
-use Rattle.pcm_states.specs.declared.states.State.TheVariants.{Xrun}
-use Rattle.course.specs.Gives.{Gives, Gives-map}
-use Rattle.wav_io.specs.Sound.{Sound}
-use Rattle.dmix_client.specs.declared.stream.PlaybackStream.{PlaybackStream}
-use Rattle.lab_lines.specs.declared.line.Op.{Op}
-use Rattle.lab_lines.specs.declared.row.Answer.{Answer}
-use Rattle.lab_lines.specs.declared.row.Answer.TheVariants.{Done, Failed}
-use Rattle.lab_run.specs.Client.{after_call, call_of, Client, client_kind}
-use Rattle.run_laws.specs.LateRows.{IsNextSample, LateRowsNameNext, NamesNext, IsLastSample, LateRewindsNameLast, NamesLast}
-use Rattle.lab_run.specs.Rules.{Rules, AtPort}
-use Rattle.lab_run.proofs.EachLine.{open_client-line, client-line}
-use Rattle.lab_lines.specs.declared.line.Op.TheVariants as op
+use Rattle.run_laws.specs.Prelude.{List, None, Option, refl, Some, subst, sym, ℕ, ◌≡◌, IfSome, Xrun, Marks, Gives, Gives-map, PlaybackStream, Sound, Op, Answer}
+use Rattle.run_laws.specs.Prelude.{Done, Failed, after_call, call_of, Client, client_kind, LineMay, AtPort, Rules, client-line, open_client-line, IsLate}
+use Rattle.run_laws.specs.Prelude.{IsLastSample, IsNextSample, LateRewindsNameLast, LateRowsNameNext, NamesLast, NamesNext}
 use Rattle.run_laws.proofs.LateLaws.{LateAnswer-less, LateAnswer}
-use Rattle.lab_run.specs.Lines.{LineMay}
-use Rattle.run_laws.specs.Late.{IsLate}
 use Rattle.run_laws.proofs.LateParts.{IsMissed, NamedBy, call-missed, rewind-last}
+use Rattle.snd_base.specs.declared.errors.PcmError.TheVariants as error
+use Rattle.lab_lines.specs.declared.line.Op.TheVariants as op
 
 pub late-rows : (rules : Rules) (phase : ℕ) (wav : Sound) (number : ℕ) → LateRowsNameNext rules phase wav number
 late-rows rules phase wav number a b client after c asked answer is not may =

@@ -1,32 +1,16 @@
 -- The lines of actors in a phase: each has a row, whose answer and state have a text, and actors stay such that they have one.
-use Rattle.std.proofs.Common.{◌≡◌, ℕ, ◌+◌, ◌<◌, refl, sym, ◌∙◌, ap, subst, arith, List, [], ◌∷◌, ◌++◌, length, map, Option, Some, None, suc}
-use Rattle.std.proofs.lemmas.List.{map-append}
-use Rattle.std.proofs.lemmas.List.Elements.{All-append, All-cons, All-head, All-nil, All-tail}
-use Rattle.std.specs.Prelude.{All}
-use Rattle.course.specs.Gives.{Gives, Gives-taken}
-use Rattle.wav_io.specs.Sound.{Sound}
-use Rattle.dmix_client.specs.declared.stream.PlaybackStream.{PlaybackStream}
-use Rattle.dsnoop_client.specs.declared.stream.CaptureStream as reading
-use Rattle.lab_lines.specs.declared.line.Actor.{Actor}
-use Rattle.lab_lines.specs.declared.line.Actor.TheVariants as actor
-use Rattle.lab_lines.specs.declared.line.Line.{Line}
-use Rattle.lab_lines.specs.declared.line.Op.{Op}
-use Rattle.lab_lines.specs.declared.script.Script.{Script}
-use Rattle.lab_lines.specs.declared.row.Answer.{Answer}
-use Rattle.lab_lines.specs.declared.row.Row.{Row}
-use Rattle.lab_report.specs.Requests.{of_place, request_of}
-use Rattle.lab_lines.specs.Rows.{request_of_row}
-use Rattle.lab_report.specs.Text.{HasText, IsRowOf}
-use Rattle.lab_run.specs.Client.{Client, client_kind}
-use Rattle.lab_run.specs.Client as clients
-use Rattle.lab_run.specs.Lines.{EachMay, Kind, LinesMay}
-use Rattle.lab_run.specs.Reader.{Reader, reader_kind}
-use Rattle.lab_run.specs.Reader as readers
-use Rattle.lab_run.specs.Rules.{AtPort, MayGet, MayLay, MayLoad, Rules}
+use Rattle.run_laws.specs.Prelude.{ap, arith, length, List, None, Option, refl, Some, subst, sym, ℕ, [], ◌++◌, ◌+◌, ◌<◌, ◌∙◌, ◌∷◌, ◌≡◌, map-append, All-append}
+use Rattle.run_laws.specs.Prelude.{All-cons, All-head, All-nil, All-tail, All, map, suc, Gives, Gives-taken, PlaybackStream, Sound, Actor, Line, Op, Answer}
+use Rattle.run_laws.specs.Prelude.{Row, Script, request_of_row, of_place, request_of, HasText, IsRowOf, Client, client_kind, EachMay, Kind, LinesMay, Reader}
+use Rattle.run_laws.specs.Prelude.{reader_kind, AtPort, MayGet, MayLay, MayLoad, Rules}
 use Rattle.run_laws.proofs.ClientCalls.{IsReportable, client_line-reports}
-use Rattle.run_laws.proofs.ReaderCalls as reader_calls
 use Rattle.run_laws.proofs.ReaderCalls.{reader_line-reports}
 use Rattle.run_laws.proofs.Requests.{asks, from_place}
+use Rattle.dsnoop_client.specs.declared.stream.CaptureStream as reading
+use Rattle.lab_lines.specs.declared.line.Actor.TheVariants as actor
+use Rattle.lab_run.specs.Client as clients
+use Rattle.lab_run.specs.Reader as readers
+use Rattle.run_laws.proofs.ReaderCalls as reader_calls
 
 -- what the laws need of a kind of actor: each line keeps a property, and has a row of the script
 pub record IsReporting {S : Type 0} (script : Script) (phase : ℕ) (who : Actor) (P : S → Type 0) (kind : Kind S) : Type 0 where

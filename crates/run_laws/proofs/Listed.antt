@@ -1,22 +1,8 @@
 -- What a client ended by an xrun is in the report: each item of the script's body keeps it.
-use Rattle.std.proofs.Common.{◌≡◌, ℕ, inl, inr, refl, sym, ◌∙◌, ap, subst, arith, List, [], ◌++◌, Option, Some, None}
-use Rattle.std.proofs.lemmas.List.{append-nil}
-use Rattle.std.specs.Prelude.{true, slice_index_or, slice_set, IfSome}
-use Rattle.snd_base.specs.declared.places.Segment.{Segment}
-use Rattle.pcm_states.specs.declared.states.State.TheVariants.{Xrun}
-use Rattle.wav_io.specs.Sound.{Sound}
-use Rattle.dmix_client.specs.declared.stream.PlaybackStream.{PlaybackStream}
-use Rattle.dshare.specs.Owners.{ClaimRow as Claim}
-use Rattle.lab_lines.specs.declared.line.Op.{Op}
-use Rattle.lab_lines.specs.declared.row.Answer.{Answer}
-use Rattle.lab_run.specs.Client.{Client, client_kind, segments_of}
-use Rattle.lab_run.specs.Items.{no_sound}
-use Rattle.lab_run.specs.LabRun.{report_of}
-use Rattle.lab_run.specs.Lines.{LineMay}
-use Rattle.lab_run.specs.OwnRows.{segments_by}
-use Rattle.lab_run.specs.Rules.{AtPort, Rules}
-use Rattle.lab_run.specs.Stage.{Session, Stage, client_at, ended_client, no_client, opened_client}
-use Rattle.run_laws.specs.Late.{IsLate}
+use Rattle.run_laws.specs.Prelude.{ap, arith, inl, inr, List, None, Option, refl, Some, subst, sym, ℕ, [], ◌++◌, ◌∙◌, ◌≡◌, append-nil, IfSome, slice_index_or}
+use Rattle.run_laws.specs.Prelude.{slice_set, true, Segment, Xrun, ClaimRow as Claim, PlaybackStream, Sound, Op, Answer, Client, client_kind, segments_of}
+use Rattle.run_laws.specs.Prelude.{no_sound, report_of, LineMay, segments_by, AtPort, Rules, client_at, ended_client, no_client, opened_client, Session, Stage}
+use Rattle.run_laws.specs.Prelude.{IsLate}
 use Rattle.run_laws.proofs.LateRows.{late-ends}
 use Rattle.run_laws.proofs.Numbered.{numbered-at}
 use Rattle.run_laws.proofs.OnwardLines.{InOpen}

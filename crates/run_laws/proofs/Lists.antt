@@ -1,6 +1,5 @@
 -- Lists, each member of which has a fact.
-use Rattle.std.proofs.Common.{List, [], ◌∷◌, ◌++◌}
-use Rattle.std.specs.List.{AllByRecursion}
+use Rattle.run_laws.specs.Prelude.{List, [], ◌++◌, ◌∷◌, AllByRecursion}
 
 pub each-append : {X : Type 0} (P : X → Type 0) (xs ys : List X) → AllByRecursion P xs → AllByRecursion P ys → AllByRecursion P (xs ++ ys)
 each-append P [] ys one other = other

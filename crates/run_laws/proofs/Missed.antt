@@ -1,31 +1,16 @@
 -- A line that is answered late names a frame and channel at which its client's stretch has placed no sample.
-use Rattle.std.proofs.Common.{◌≡◌, ℕ, ◌+◌, ◌<◌, refl, sym, ◌∙◌, ap, subst, List, [], ◌∷◌, length, Option, Some, None}
-use Rattle.std.proofs.lemmas.List.{append-nil}
-use Rattle.std.specs.List.{flat_map}
-use Rattle.std.specs.Prelude.{Bool, true, false, ◌&&◌, nat_eq, if◌then◌else◌, IfSome, slice_index, slice_index_or}
-use Rattle.bindings.specs.Bound.{rising}
-use Rattle.mix_core.specs.Laid.{at}
-use Rattle.wav_io.specs.Sound.{Sound}
-use Rattle.dmix_client.specs.Calls.{segment_of}
-use Rattle.dmix_client.specs.declared.stream.PlaybackStream.{PlaybackStream}
-use Rattle.lab_lines.specs.declared.line.Item.{Item}
-use Rattle.lab_lines.specs.declared.line.Op.{Op}
-use Rattle.lab_lines.specs.declared.line.Op.TheVariants as op
-use Rattle.lab_lines.specs.declared.row.Answer.{Answer}
-use Rattle.lab_run.specs.Client.{Client, client_kind, stretch_of}
-use Rattle.lab_run.specs.Items.{no_sound, rules_of}
-use Rattle.lab_run.specs.LabRun.{entries_by}
-use Rattle.run_laws.specs.LateRows.{IsNextSample, LateRewindsNameLast, LateRowsNameNext, NamesLast, NamesNext, is_rewind}
-use Rattle.lab_run.specs.Lines.{LineMay}
-use Rattle.lab_run.specs.Rules.{AtPort, Rules}
-use Rattle.lab_run.specs.Stage.{Session, Setup, client_at}
-use Rattle.run_laws.specs.Late.{HasLast, IsLate, LateLinesMiss, placed_now}
+use Rattle.run_laws.specs.Prelude.{ap, length, List, None, Option, refl, Some, subst, sym, ℕ, [], ◌+◌, ◌<◌, ◌∙◌, ◌∷◌, ◌≡◌, append-nil, flat_map, Bool, false}
+use Rattle.run_laws.specs.Prelude.{IfSome, if◌then◌else◌, nat_eq, slice_index, slice_index_or, true, ◌&&◌, rising, at, PlaybackStream, segment_of, Sound, Item}
+use Rattle.run_laws.specs.Prelude.{Op, Answer, Client, client_kind, stretch_of, no_sound, rules_of, entries_by, LineMay, AtPort, Rules, client_at, Session}
+use Rattle.run_laws.specs.Prelude.{Setup, HasLast, IsLate, LateLinesMiss, placed_now, is_rewind, IsNextSample, LateRewindsNameLast, LateRowsNameNext, NamesLast}
+use Rattle.run_laws.specs.Prelude.{NamesNext}
 use Rattle.run_laws.proofs.Bound.{IsBound, IsClientBound, clients-bound, line-named}
 use Rattle.run_laws.proofs.Expanded.{entries-so, next-free}
 use Rattle.run_laws.proofs.Going.{closed-line, still-client}
 use Rattle.run_laws.proofs.LateLaws.{LateAnswer}
 use Rattle.run_laws.proofs.LateParts.{Named}
 use Rattle.run_laws.proofs.Stages.{lines-kept, reached-client}
+use Rattle.lab_lines.specs.declared.line.Op.TheVariants as op
 
 -- the samples of a stretch
 of-stretch : (session : Session) (number : ℕ) (c : PlaybackStream) (frame channel : ℕ) → at (entries_by session (number, segment_of c)) frame channel ≡ []

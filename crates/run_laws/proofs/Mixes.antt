@@ -1,15 +1,7 @@
 -- What the card played is the mix of the report's segments.
-use Rattle.std.proofs.Common.{◌≡◌, ◌<◌, ◌≤◌, ◌+◌, ◌*◌, ◌%◌, ℕ, suc, sym, ap, ◌∙◌, refl, subst, List, arith, mul-le-mul, Option}
-use Rattle.std.specs.Prelude.{pos}
-use Rattle.std.proofs.lemmas.List.FromFn.{get_or-map-range_with_len, length-map-range_with_len}
-use Rattle.std.proofs.lemmas.Nat.{div-mul-add, mod-mul-add}
-use Rattle.lap_word.specs.Clamp.{clamp_of}
-use Rattle.mix_core.specs.Laid.{total}
-use Rattle.wav_io.specs.Sound.{Sound}
-use Rattle.lab_lines.specs.declared.line.Item.{Item}
-use Rattle.lab_run.specs.LabRun.{LabRun, Outcome, mixed_at, outcome_of, report_of}
-use Rattle.lab_run.specs.Stage.{Session, Stage}
-use Rattle.run_laws.specs.Mix.{IsMixOf, placed_entries}
+use Rattle.run_laws.specs.Prelude.{ap, arith, List, mul-le-mul, Option, refl, subst, sym, ℕ, ◌*◌, ◌+◌, ◌<◌, ◌∙◌, ◌≡◌, ◌≤◌, get_or-map-range_with_len}
+use Rattle.run_laws.specs.Prelude.{length-map-range_with_len, div-mul-add, mod-mul-add, pos, suc, ◌%◌, clamp_of, total, Sound, Item, LabRun, mixed_at, Outcome}
+use Rattle.run_laws.specs.Prelude.{outcome_of, report_of, Session, Stage, IsMixOf, placed_entries}
 
 stage-mix : (session : Session) (capture : Option Sound) (end : Stage)
     → IsMixOf session (outcome_of session capture end).report (outcome_of session capture end).played

@@ -1,12 +1,6 @@
 -- Lists of what each of several members has, with the members' numbers.
-use Rattle.std.proofs.Common.{◌≡◌, ℕ, ◌≤◌, ◌+◌, refl, sym, ◌∙◌, ap, arith, subst, List, [], ◌∷◌, ◌++◌, length}
-use Rattle.std.proofs.lemmas.Bool.{eq-eqb}
-use Rattle.std.proofs.lemmas.Bool.Decides.{nat_tests}
-use Rattle.std.proofs.lemmas.List.{append-nil}
-use Rattle.std.proofs.lemmas.List.Concat.{flat_map-append}
-use Rattle.std.specs.List.{flat_map, range_with_len}
-use Rattle.std.specs.Prelude.{false, zero, suc, nat_eq, map, slice_index_or}
-use Rattle.lab_run.specs.LabRun.{with_numbers}
+use Rattle.run_laws.specs.Prelude.{ap, arith, length, List, refl, subst, sym, ℕ, [], ◌++◌, ◌+◌, ◌∙◌, ◌∷◌, ◌≡◌, ◌≤◌, eq-eqb, nat_tests, append-nil}
+use Rattle.run_laws.specs.Prelude.{flat_map-append, flat_map, range_with_len, false, map, nat_eq, slice_index_or, suc, zero, with_numbers}
 use Rattle.run_laws.proofs.OwnLines.{members-append, members-other, members_of, numbered-past}
 
 members-own : {Y : Type 0} (n : ℕ) (ys : List Y) → members_of n (map (λ y. (n, y)) ys) ≡ ys

@@ -1,11 +1,5 @@
 -- What is kept of each client by its number is so in each stage of a run, where the card never is before its first frame.
-use Rattle.std.proofs.Common.{ℕ, arith, List}
-use Rattle.lab_lines.specs.declared.line.Item.{Item}
-use Rattle.lab_lines.specs.Script.{first_frame}
-use Rattle.lab_run.specs.Client.{Client}
-use Rattle.lab_run.specs.Items.{ItemsMay}
-use Rattle.lab_run.specs.Rules.{AtPort}
-use Rattle.lab_run.specs.Stage.{Session, Stage, first_stage}
+use Rattle.run_laws.specs.Prelude.{arith, List, ℕ, Item, first_frame, Client, ItemsMay, AtPort, first_stage, Session, Stage}
 use Rattle.run_laws.proofs.Stages.{EachOf, IsKeptFrom, reached-each}
 
 -- a fact of the client of a number is kept in phases that publish no position before the card's first frame

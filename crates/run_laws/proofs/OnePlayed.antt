@@ -1,31 +1,15 @@
 -- In a card that is shared by channels the one sample of a place is played as it is, since a sample of 16 bits isn't saturated.
-use Rattle.std.proofs.Common.{◌≡◌, ℕ, ◌+◌, sym, ◌∙◌, ap, subst, arith, List, [], ◌∷◌, Option, Some, length}
-use Rattle.std.proofs.lemmas.Int.{int_max_is, int_min_is, ints}
+use Rattle.run_laws.specs.Prelude.{ap, arith, length, List, Option, Some, subst, sym, ℕ, [], ◌+◌, ◌∙◌, ◌∷◌, ◌≡◌, int_max_is, int_min_is, ints}
+use Rattle.run_laws.specs.Prelude.{recursion_from_All, AllByRecursion, flat_map, range_with_len, All, Bool, cond, false, filter, map, negsuc, pos, slice_get}
+use Rattle.run_laws.specs.Prelude.{slice_index, slice_index_or, suc, take, true, zero, ℤ, Segment, rising, ClaimRow as Claim, clamp_of, IsSample, Entry, Added}
+use Rattle.run_laws.specs.Prelude.{is_at, value_of, expand, frame_entries, sample_at, Sound, Script, ClaimIsOwners, entries_by, LabRun, Outcome, IsSessionOf}
+use Rattle.run_laws.specs.Prelude.{Session, IsMixOf, placed_entries, AreBound, AreSamples, only_of, PlaysOneSample}
 use Rattle.std.specs.Int.{int_min}
-use Rattle.std.proofs.lemmas.List.Elements.{recursion_from_All}
-use Rattle.std.specs.List.{AllByRecursion, flat_map, range_with_len}
-use Rattle.std.specs.Prelude.{All, Bool, true, false, cond, zero, suc, ℤ, negsuc, pos, filter, map, slice_get, slice_index, slice_index_or, take}
-use Rattle.snd_base.specs.declared.places.Segment.{Segment}
-use Rattle.bindings.specs.Bound.{rising}
-use Rattle.lap_word.specs.Clamp.{IsSample, clamp_of}
-use Rattle.mix_core.specs.declared.port.Entry.{Entry}
-use Rattle.mix_core.specs.declared.port.Kind.TheVariants.{Added}
-use Rattle.mix_core.specs.Laid as laid
-use Rattle.mix_core.specs.Laid.{is_at, value_of}
-use Rattle.wav_io.specs.Sound.{Sound}
-use Rattle.dshare.specs.Owners.{ClaimRow as Claim}
-use Rattle.dmix_client.specs.Expansion.{expand, frame_entries, sample_at}
-use Rattle.lab_lines.specs.declared.script.Script.{Script}
-use Rattle.lab_run.specs.Claims.{ClaimIsOwners}
-use Rattle.lab_run.specs.LabRun.{LabRun, Outcome, entries_by}
-use Rattle.lab_run.specs.Openings.{IsSessionOf}
-use Rattle.lab_run.specs.Stage.{Session}
-use Rattle.run_laws.specs.Mix.{IsMixOf, placed_entries}
-use Rattle.run_laws.specs.OneSample.{AreBound, AreSamples, PlaysOneSample, only_of}
 use Rattle.run_laws.proofs.Expanded.{entries-so}
-use Rattle.run_laws.proofs.Mixes.{LabRun-mix}
 use Rattle.run_laws.proofs.Lists.{each-append}
+use Rattle.run_laws.proofs.Mixes.{LabRun-mix}
 use Rattle.run_laws.proofs.OneSample.{LabRun-once}
+use Rattle.mix_core.specs.Laid as laid
 
 -- a sample isn't saturated
 sample-clamp : (x : ℤ) → IsSample x → clamp_of x ≡ x

@@ -1,24 +1,12 @@
 -- In a card that is shared by channels at most one sample is placed at each frame and channel.
-use Rattle.std.proofs.Common.{◌≡◌, ℕ, ◌≤◌, refl, sym, subst, arith, List, [], ◌∷◌, Option, Some, None, length}
-use Rattle.std.proofs.lemmas.Int.{ints}
-use Rattle.std.specs.Prelude.{ℤ, slice_index_or, IfSome}
+use Rattle.run_laws.specs.Prelude.{arith, length, List, None, Option, refl, Some, subst, sym, ℕ, [], ◌∷◌, ◌≡◌, ◌≤◌, ints, IfSome, slice_index_or, ℤ}
+use Rattle.run_laws.specs.Prelude.{AreBindings, length-rising, ClaimRow as Claim, sum_of_samples, Sound, Script, ClaimIsOwners, LabRun, Outcome, IsSessionOf}
+use Rattle.run_laws.specs.Prelude.{first_stage, Session, Setup, placed_entries, AreBound, HasOneSample, only_of}
 use Rattle.snd_base.specs.Places.{first_frame}
-use Rattle.bindings.specs.Bound.{AreBindings}
-use Rattle.bindings.specs.RisingLaws.{length-rising}
-use Rattle.mix_core.specs.Laid as laid
-use Rattle.mix_core.specs.Laid.{sum_of_samples}
-use Rattle.wav_io.specs.Sound.{Sound}
-use Rattle.lab_lines.specs.declared.script.Script.{Script}
-use Rattle.dshare.specs.Owners.{ClaimRow as Claim}
-use Rattle.lab_run.specs.Claims.{ClaimIsOwners}
-use Rattle.lab_run.specs.LabRun.{LabRun, Outcome}
-use Rattle.lab_run.specs.Openings.{IsSessionOf}
-use Rattle.lab_run.specs.Stage.{Session, Setup, first_stage}
-use Rattle.run_laws.specs.Mix.{placed_entries}
-use Rattle.run_laws.specs.OneSample.{AreBound, HasOneSample, only_of}
 use Rattle.run_laws.proofs.Onward.{Channels}
 use Rattle.run_laws.proofs.Sole.{Sole, first-sole, sole-held, sole-once}
 use Rattle.run_laws.proofs.Stages.{items-held}
+use Rattle.mix_core.specs.Laid as laid
 
 -- the sum of one sample is that sample
 only-sum : (samples : List ℤ) → length samples ≤ 1 → sum_of_samples samples ≡ only_of samples

@@ -1,38 +1,16 @@
 -- Where a client's frames go on: what its calls place is past what was placed before.
-use Rattle.std.proofs.Common.{◌≡◌, ℕ, ◌+◌, ◌<◌, ◌≤◌, ◌⊎◌, inl, inr, refl, sym, ◌∙◌, arith, Option, Some, None}
-use Rattle.std.proofs.lemmas.Bool.{false≢true}
-use Rattle.std.proofs.lemmas.Bool.Decides.{nat_tests}
-use Rattle.std.specs.Prelude.{Bool, true, false, nat_eq, nat_lt, if◌then◌else◌, List, [], ◌∷◌, length, ℤ, Result, Ok, Err, IfOk, IfSome, zero, suc, max, slice_index}
-use Rattle.snd_base.specs.declared.errors.PcmError.{PcmError}
-use Rattle.snd_base.specs.declared.geometry.Geometry.{Geometry}
-use Rattle.snd_base.specs.declared.places.Cursor.{Cursor}
-use Rattle.snd_base.specs.Places.{cursor_after, first_free}
-use Rattle.bindings.specs.Bound.{rising}
-use Rattle.mix_core.specs.declared.marks.Marks.{Marks}
-use Rattle.mix_core.specs.declared.port.Ended.{Ended}
-use Rattle.mix_core.specs.declared.port.Ended.TheVariants as ended
-use Rattle.mix_core.specs.declared.port.Position.{Position}
-use Rattle.mix_core.specs.Laid.{an_add, marks_after}
-use Rattle.mix_core.specs.Marks.{is_before, later_of}
-use Rattle.mix_core.specs.Port.{OnWhole}
-use Rattle.pcm_states.specs.declared.calls.Call.{Call}
-use Rattle.pcm_states.specs.declared.calls.Call.TheVariants as call
-use Rattle.pcm_states.specs.declared.calls.Facts.{Facts}
+use Rattle.run_laws.specs.Prelude.{arith, inl, inr, length, List, None, Option, refl, Some, sym, ℕ, [], ◌+◌, ◌<◌, ◌∙◌, ◌∷◌, ◌≡◌, ◌≤◌, ◌⊎◌, false≢true}
+use Rattle.run_laws.specs.Prelude.{nat_tests, Bool, Err, false, IfOk, IfSome, if◌then◌else◌, max, nat_eq, nat_lt, Ok, Result, slice_index, suc, true, zero, ℤ}
+use Rattle.run_laws.specs.Prelude.{PcmError, XrunWhy, Geometry, Cursor, cursor_after, first_free, rising, Call, Facts, State, Draining, Prepared, Running}
+use Rattle.run_laws.specs.Prelude.{done_in, first_outcome, if_gone, if_late, if_over, if_played, next_of, still_draining, stopped_by, draining-holds}
+use Rattle.run_laws.specs.Prelude.{moving-holds, is_moving, Marks, Ended, Position, an_add, marks_after, is_before, later_of, OnWhole, Got, Course, ends, gets}
+use Rattle.run_laws.specs.Prelude.{lays, loads, ◌>>=◌, Commit, PlaybackStream, after_start, after_sync, Answered, committed_by, facts_of, found_at, going_on}
+use Rattle.run_laws.specs.Prelude.{going_on_by, is_prepared, is_stop, late_of, over_of, seen_at, start_count, start_frame, started_in, stopped_in, sync_count}
+use Rattle.run_laws.specs.Prelude.{with_outcome, commits, go_on, lay_each, lay_frame, lay_frames, looks, nothing, one_frame_more, one_more, starts, syncs}
+use Rattle.run_laws.specs.Prelude.{IsFrameStep, ring_sample}
 use Rattle.pcm_states.specs.declared.calls.Outcome.{Outcome}
-use Rattle.pcm_states.specs.declared.states.State.{State}
-use Rattle.pcm_states.specs.declared.states.State.TheVariants.{Draining, Prepared, Running}
-use Rattle.pcm_states.specs.Table.{done_in, first_outcome, if_gone, if_late, if_over, if_played, next_of, still_draining, stopped_by}
-use Rattle.pcm_states.specs.TableLaws.{draining-holds, moving-holds}
-use Rattle.pcm_stream.specs.Status.{is_moving}
-use Rattle.snd_base.specs.declared.errors.XrunWhy.{XrunWhy}
-use Rattle.snoop_core.specs.declared.port.Got.{Got}
-use Rattle.course.specs.Course.{◌>>=◌, Course, ends, gets, lays, loads}
-use Rattle.dmix_client.specs.declared.commit.Commit.{Commit}
-use Rattle.dmix_client.specs.declared.stream.PlaybackStream.{PlaybackStream}
-use Rattle.dmix_client.specs.Calls.{Answered, committed_by, facts_of, found_at, going_on, going_on_by, is_prepared, is_stop, late_of, over_of, seen_at, with_outcome, start_count, start_frame, after_start, started_in, stopped_in, sync_count, after_sync}
-use Rattle.dmix_client.specs.Course.{commits, go_on, lay_each, lay_frame, lay_frames, looks, nothing, one_frame_more, one_more, starts, syncs}
-use Rattle.dmix_client.specs.Port.{IsFrameStep}
-use Rattle.dmix_client.specs.View.{ring_sample}
+use Rattle.mix_core.specs.declared.port.Ended.TheVariants as ended
+use Rattle.pcm_states.specs.declared.calls.Call.TheVariants as call
 
 -- ---- marks
 

@@ -1,35 +1,19 @@
 -- Each call of a client goes on after what was placed before.
-use Rattle.std.proofs.Common.{◌≡◌, ℕ, ◌+◌, ◌-◌, ◌≤◌, inl, inr, refl, sym, ◌∙◌, subst, arith, Some}
-use Rattle.std.proofs.lemmas.Bool.{false≢true}
-use Rattle.std.specs.Prelude.{Bool, true, false, ◌&&◌, nat_eq, nat_lt, if◌then◌else◌, [], Ok, Err, min, max, ⊤}
-use Rattle.snd_base.specs.declared.errors.PcmError.TheVariants as error
-use Rattle.snd_base.specs.declared.geometry.Geometry.{Geometry}
-use Rattle.snd_base.specs.declared.places.Cursor.{Cursor}
-use Rattle.mix_core.specs.declared.marks.Marks.{Marks}
-use Rattle.pcm_states.specs.declared.calls.Call.{Call}
-use Rattle.pcm_states.specs.declared.calls.Call.TheVariants as call
-use Rattle.pcm_states.specs.declared.calls.Facts.{Facts}
-use Rattle.pcm_states.specs.declared.states.State.{State}
-use Rattle.pcm_states.specs.declared.states.State.TheVariants.{Draining, Paused, Running, Setup}
-use Rattle.pcm_states.specs.Table.{next_of}
-use Rattle.pcm_stream.specs.declared.direction.Direction.TheVariants.{Playback}
-use Rattle.pcm_stream.specs.Status.{is_moving, nothing_found}
-use Rattle.course.specs.Course.{Course, ends}
-use Rattle.dmix_client.specs.declared.commit.Commit.{Commit}
-use Rattle.dmix_client.specs.declared.stream.PlaybackStream.{PlaybackStream}
-use Rattle.dmix_client.specs.Calls.{Answered, committed_by, found_at, is_prepared, is_stop, late_of, with_outcome, start_count, after_start, started_in, stopped_in, accepted_if, in_draining, in_state, is_running, late_at, pending_of, after_prepare, with_new_base, after_resume, taken_of, with_number, written_after}
-use Rattle.dmix_client.specs.Course.{commits, looks, nothing, syncs, if_admitted, drain_on, drains, pause_course, resumes, takes_more, write_on}
-use Rattle.dmix_client.specs.Port.{IsFrameStep}
-use Rattle.dmix_client.specs.Rewind.{back_of, checks, last_channel, last_laid, rewind_on, rewindable_of, after_rewind, take_frames, taken_back, takes_back}
-use Rattle.dmix_client.specs.View.{avail_of, ring_sample}
-use Rattle.dmix_client.specs.Writes.{count_with, ring_with}
-use Rattle.lab_lines.specs.declared.line.Op.{Op}
-use Rattle.lab_lines.specs.declared.line.Op.TheVariants as op
-use Rattle.wav_io.specs.Sound.{Sound}
-use Rattle.lab_run.specs.Client.{call_answer, call_of, done_answer}
-use Rattle.lab_run.proofs.CallParts.{IsSaying, Parts, call_of-says, done_answer-says, empty-still, if_admitted-says, is_new_stretch, running-moves, running-transfers, start-unprepared, step-moves}
+use Rattle.run_laws.specs.Prelude.{arith, inl, inr, refl, Some, subst, sym, ℕ, [], ◌+◌, ◌-◌, ◌∙◌, ◌≡◌, ◌≤◌, false≢true, Bool, Err, false, if◌then◌else◌, max}
+use Rattle.run_laws.specs.Prelude.{min, nat_eq, nat_lt, Ok, true, ⊤, ◌&&◌, Geometry, Cursor, Call, Facts, State, Draining, Paused, Running, next_of, Playback}
+use Rattle.run_laws.specs.Prelude.{is_moving, nothing_found, Marks, Course, ends, Commit, PlaybackStream, accepted_if, after_prepare, after_resume, after_start}
+use Rattle.run_laws.specs.Prelude.{Answered, committed_by, found_at, in_draining, in_state, is_prepared, is_running, is_stop, late_at, late_of, pending_of}
+use Rattle.run_laws.specs.Prelude.{start_count, started_in, stopped_in, taken_of, with_new_base, with_number, with_outcome, written_after, commits, drain_on}
+use Rattle.run_laws.specs.Prelude.{drains, if_admitted, looks, nothing, pause_course, resumes, syncs, takes_more, write_on, IsFrameStep, after_rewind, back_of}
+use Rattle.run_laws.specs.Prelude.{checks, last_channel, last_laid, rewind_on, rewindable_of, take_frames, taken_back, takes_back, avail_of, ring_sample}
+use Rattle.run_laws.specs.Prelude.{count_with, ring_with, Sound, Op, call_answer, call_of, done_answer, call_of-says, done_answer-says, empty-still}
+use Rattle.run_laws.specs.Prelude.{if_admitted-says, is_new_stretch, IsSaying, Parts, running-moves, running-transfers, start-unprepared, step-moves}
+use Rattle.pcm_states.specs.declared.states.State.TheVariants.{Setup}
 use Rattle.run_laws.proofs.Onward.{Begun, Channels, OnwardAfter, Leads, Leads-if, Leads-map, Leads-then, Lies, Onward, Started, Waits, begun, commits-lead, earlier-lies, end_of, ended-lies, free_frame, high_end, looks-lead, moving-begun, moving-unprepared, start-commits, starts-go, after_sync-goes, syncs-go}
 use Rattle.run_laws.proofs.Withdrawn.{below-sum, frames-back}
+use Rattle.snd_base.specs.declared.errors.PcmError.TheVariants as error
+use Rattle.pcm_states.specs.declared.calls.Call.TheVariants as call
+use Rattle.lab_lines.specs.declared.line.Op.TheVariants as op
 
 -- how a fact of marks is said of a course
 abbrev LeadsSo : ℕ → Geometry → (X : Type 0) → (Marks → X → Type 0) → Marks → Course X → Type 0

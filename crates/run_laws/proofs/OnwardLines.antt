@@ -1,31 +1,16 @@
 -- Each line of a client goes on after what was placed before.
-use Rattle.std.proofs.Common.{◌≡◌, ℕ, ◌+◌, ◌<◌, ◌≤◌, ◌⊎◌, inl, inr, refl, sym, ◌∙◌, ap, subst, arith, Option, Some, None}
-use Rattle.std.proofs.lemmas.Bool.{false≢true}
-use Rattle.std.proofs.lemmas.List.{append-nil}
-use Rattle.std.proofs.lemmas.Bool.Decides.{nat_tests}
-use Rattle.std.specs.Prelude.{Bool, true, false, not, ◌&&◌, nat_eq, if◌then◌else◌, List, [], ◌∷◌, Ok, max, Contains, ◌++◌}
-use Rattle.snd_base.specs.declared.errors.PcmError.{PcmError}
-use Rattle.snd_base.specs.declared.geometry.Geometry.{Geometry}
-use Rattle.mix_core.specs.declared.marks.Marks.{Marks}
-use Rattle.mix_core.specs.declared.port.Ended.TheVariants as ended
-use Rattle.pcm_states.specs.declared.calls.Call.TheVariants as call
-use Rattle.pcm_stream.specs.declared.direction.Direction.TheVariants.{Playback}
-use Rattle.pcm_stream.specs.Status.{refusal_of}
-use Rattle.course.specs.Course.{◌>>=◌, Course, ends, gets, lays, loads}
-use Rattle.dmix_client.specs.declared.stream.PlaybackStream.{PlaybackStream}
-use Rattle.dmix_client.specs.Calls.{Answered, is_paused, after_prepare, segment_of}
-use Rattle.dmix_client.specs.Course.{if_admitted, admitted_by, pause_course}
-use Rattle.lab_lines.specs.declared.line.Op.{Op}
-use Rattle.lab_lines.specs.declared.line.Op.TheVariants as op
-use Rattle.lab_lines.specs.declared.row.Answer.{Answer}
-use Rattle.lab_lines.specs.declared.row.Answer.TheVariants.{Done}
-use Rattle.wav_io.specs.Sound.{Sound}
-use Rattle.lab_run.specs.Client.{Client, after_call, call_answer, begins, call_of, client_kind, dies_if, done_answer, ended_by, line_by, line_if, stretch_of}
-use Rattle.lab_run.specs.Lines.{LineMay}
-use Rattle.snoop_core.specs.declared.port.Got.TheVariants as got
-use Rattle.lab_run.specs.Rules.{AtPort, May, Rules, lets_pass, with_asks, with_stop, with_stop_by}
+use Rattle.run_laws.specs.Prelude.{ap, arith, inl, inr, List, None, Option, refl, Some, subst, sym, ℕ, [], ◌++◌, ◌+◌, ◌<◌, ◌∙◌, ◌∷◌, ◌≡◌, ◌≤◌, ◌⊎◌, false≢true}
+use Rattle.run_laws.specs.Prelude.{nat_tests, append-nil, Bool, Contains, false, if◌then◌else◌, max, nat_eq, not, Ok, true, ◌&&◌, PcmError, Geometry, Playback}
+use Rattle.run_laws.specs.Prelude.{refusal_of, Marks, Course, ends, gets, lays, loads, ◌>>=◌, PlaybackStream, after_prepare, Answered, is_paused, segment_of}
+use Rattle.run_laws.specs.Prelude.{admitted_by, if_admitted, pause_course, Sound, Op, Answer, Done, after_call, begins, call_answer, call_of, Client}
+use Rattle.run_laws.specs.Prelude.{client_kind, dies_if, done_answer, ended_by, line_by, line_if, stretch_of, LineMay, AtPort, lets_pass, May, Rules, with_asks}
+use Rattle.run_laws.specs.Prelude.{with_stop, with_stop_by}
 use Rattle.run_laws.proofs.Onward.{Begun, Channels, OnwardAfter, Leads, Leads-both, Leads-then, Onward, Waits, begun, end_of, free_frame, high_end, max-least}
 use Rattle.run_laws.proofs.OnwardCalls.{based-waits, call-goes, reached, resume-leads}
+use Rattle.mix_core.specs.declared.port.Ended.TheVariants as ended
+use Rattle.pcm_states.specs.declared.calls.Call.TheVariants as call
+use Rattle.lab_lines.specs.declared.line.Op.TheVariants as op
+use Rattle.snoop_core.specs.declared.port.Got.TheVariants as got
 
 -- ---- what a line ends
 

@@ -1,27 +1,17 @@
 -- A script has one session on its clients' files.
-use Rattle.std.proofs.Common.{◌≡◌, ◌≤◌, ℕ, sym, ap, ◌∙◌, refl, subst, List, [], ◌∷◌, length, inl, inr}
+use Rattle.run_laws.specs.Prelude.{ap, inl, inr, length, List, None, Option, refl, Some, subst, sym, ℕ, [], ◌∙◌, ◌∷◌, ◌≡◌, ◌≤◌, Err, Ok, Result, Geometry}
+use Rattle.run_laws.specs.Prelude.{ParamBox, with_value, Leaves, widest, Sound, CardLine, ClientLine, ReaderLine, Script, AreClientOpenings, AreParams}
+use Rattle.run_laws.specs.Prelude.{AreReaderOpenings, client_values, IsChosen, IsClientOpening, IsNarrowed, IsReaderOpening, IsRingOf, IsStop, reader_values}
+use Rattle.run_laws.specs.Prelude.{Values, Setup}
 use Rattle.std.proofs.Props.{props}
-use Rattle.std.specs.Prelude.{Option, Some, None, Result, Ok, Err}
 use Rattle.pcm_interval.specs.declared.empty.Empty.{Empty}
 use Rattle.hw_space.specs.declared.config.Config.{Config}
-use Rattle.hw_space.specs.declared.param_box.ParamBox.{ParamBox}
 use Rattle.hw_space.specs.ChoiceLaws.{IsChoice-unique, Leaves-unique}
 use Rattle.hw_space.specs.Choices.{IsChoice}
-use Rattle.hw_space.specs.Narrowings.{with_value}
-use Rattle.hw_space.specs.Settled.{Leaves}
-use Rattle.hw_space.specs.Widest.{widest}
-use Rattle.snd_base.specs.declared.geometry.Geometry.{Geometry}
 use Rattle.sw_limits.specs.declared.params.SwParams.{SwParams}
 use Rattle.sw_limits.specs.BoundaryLaws.{IsBoundary-unique}
-use Rattle.wav_io.specs.Sound.{Sound}
-use Rattle.lab_lines.specs.declared.script.CardLine.{CardLine}
-use Rattle.lab_lines.specs.declared.script.ClientLine.{ClientLine}
-use Rattle.lab_lines.specs.declared.script.ReaderLine.{ReaderLine}
-use Rattle.lab_lines.specs.declared.script.Script.{Script}
 use Rattle.lab_lines.specs.declared.script.Stop.{Stop}
 use Rattle.lab_lines.specs.declared.script.Stop.TheVariants.{At, Never}
-use Rattle.lab_run.specs.Openings.{AreClientOpenings, AreParams, AreReaderOpenings, IsChosen, IsClientOpening, IsNarrowed, IsReaderOpening, IsRingOf, IsStop, Values, client_values, reader_values}
-use Rattle.lab_run.specs.Stage.{Setup}
 use Rattle.run_laws.specs.OneSession.{HaveOneSession}
 
 -- ---- configurations

@@ -1,25 +1,11 @@
 -- What an actor of any kind does where no phase leaves a choice is what it does by itself.
-use Rattle.std.proofs.Common.{◌≡◌, ℕ, refl, sym, ◌∙◌, ap, ◌<◌, ◌+◌, length}
-use Rattle.std.proofs.lemmas.Bool.{eq-eqb}
-use Rattle.std.proofs.lemmas.List.{append_assoc, append-nil, map-append}
-use Rattle.std.proofs.lemmas.List.Elements.{filter-append}
-use Rattle.std.specs.Prelude.{Bool, true, false, nat_eq, List, [], ◌∷◌, ◌++◌, filter, map, ◌≢◌, slice_index_or}
-use Rattle.lab_lines.specs.declared.line.Actor.{Actor}
-use Rattle.lab_lines.specs.declared.row.Answer.{Answer}
-use Rattle.lab_lines.specs.declared.row.Row.{Row}
-use Rattle.lab_run.specs.OwnRows.{Alone, Given, OwnItem, alone_by, answers_of, close_alone, is_opening, open_alone, own_close, own_open, rows_by, HasLines, HaveLines, NoneOpen, alone_at, own_item, own_items, phase_alone, reaped_by}
-use Rattle.lab_run.specs.Rules.{AtPort, CardEnd}
-use Rattle.lab_run.specs.Stage.{Stage, Session, after_close, after_open, first_stage}
+use Rattle.run_laws.specs.Prelude.{ap, length, List, refl, sym, ℕ, [], ◌++◌, ◌+◌, ◌<◌, ◌∙◌, ◌∷◌, ◌≡◌, ◌≢◌, eq-eqb, append-nil, append_assoc, map-append}
+use Rattle.run_laws.specs.Prelude.{filter-append, Bool, false, filter, map, nat_eq, slice_index_or, true, Actor, Item, Line, Op, Answer, Row, first_frame}
+use Rattle.run_laws.specs.Prelude.{unplugs, item_text, items_text, phase_text, lines_text, Alone, alone_at, alone_by, answers_of, close_alone, Given, HasLines}
+use Rattle.run_laws.specs.Prelude.{HaveLines, is_opening, NoneOpen, open_alone, own_close, own_item, own_items, own_open, OwnItem, phase_alone, reaped_by}
+use Rattle.run_laws.specs.Prelude.{rows_by, ops_by, played_in, AtPort, CardEnd, after_close, after_open, first_stage, Session, Stage, Border, close-by, open-by}
 use Rattle.run_laws.proofs.OwnLines.{other-row, own-row, none-answers}
-use Rattle.lab_lines.specs.declared.line.Item.{Item}
 use Rattle.lab_lines.specs.declared.line.Item.TheVariants as item
-use Rattle.lab_lines.specs.declared.line.Line.{Line}
-use Rattle.lab_lines.specs.declared.line.Op.{Op}
-use Rattle.lab_lines.specs.Script.{first_frame, unplugs}
-use Rattle.lab_run.specs.Items.{item_text, items_text, phase_text}
-use Rattle.lab_run.specs.Lines.{lines_text}
-use Rattle.lab_run.specs.Phases.{ops_by, played_in}
-use Rattle.lab_run.proofs.BorderLaws.{Border, close-by, open-by}
 
 -- what a stage is to one actor
 abbrev pub view_of : {S : Type 0} → (Actor → Bool) → AtPort × S → Stage → Alone S

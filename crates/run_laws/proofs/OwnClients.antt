@@ -1,36 +1,17 @@
 -- What a client does where no phase leaves a choice is what it does by itself.
-use Rattle.std.proofs.Common.{◌≡◌, ℕ, ◌<◌, refl, sym, ◌∙◌, ap, subst, arith, Option, Some, None, length}
-use Rattle.std.proofs.lemmas.Bool.{eq-eqb, eqb-true}
-use Rattle.std.proofs.lemmas.List.{append-nil, get_or-set_same, get_or-set_other, length-set}
-use Rattle.std.specs.Prelude.{Bool, true, false, nat_eq, List, [], ◌∷◌, ◌++◌, slice_index_or, Result, Ok, Err}
-use Rattle.snd_base.specs.declared.errors.PcmError.{PcmError}
-use Rattle.snd_base.specs.declared.places.Segment.{Segment}
-use Rattle.wav_io.specs.Sound.{Sound}
-use Rattle.dmix_client.specs.declared.stream.PlaybackStream.{PlaybackStream}
-use Rattle.dsnoop_client.specs.declared.stream.CaptureStream.{CaptureStream}
-use Rattle.lab_lines.specs.declared.line.Actor.{Actor}
-use Rattle.lab_lines.specs.declared.line.Actor.TheVariants as actor
-use Rattle.lab_lines.specs.declared.line.Item.{Item}
-use Rattle.lab_lines.specs.declared.line.Line.{Line}
-use Rattle.lab_lines.specs.declared.line.Op.{Op}
-use Rattle.lab_lines.specs.Script.{first_frame, is_of_card}
-use Rattle.lab_lines.specs.declared.row.Answer.{Answer}
-use Rattle.lab_lines.specs.declared.row.Row.{Row}
-use Rattle.lab_run.specs.Claims.{claim_refusal}
-use Rattle.lab_run.specs.Client.{Client, segments_of}
-use Rattle.lab_run.specs.Client as clients
-use Rattle.lab_run.specs.Items.{is_stopped, card_end, client_kinds, clients_text, items_text, no_sound, phase_text, reader_kinds, readers_text, reaped_client, reaped_client_if}
-use Rattle.lab_run.specs.LabRun.{lab_text}
-use Rattle.lab_run.specs.Lines.{lines_text}
-use Rattle.lab_run.specs.OwnRows.{Alone, alone_at, alone_by, answers_of, own_items, rows_by, HaveLines, IsClientAlone, given_client, own_close, own_open, reaped_by}
-use Rattle.lab_run.specs.Phases.{is_client, is_reader, ops_by}
-use Rattle.lab_run.specs.Places.{Lobby, after_attach}
-use Rattle.lab_run.specs.Reader as readers
-use Rattle.lab_run.specs.Rules.{AtPort, CardEnd}
-use Rattle.lab_run.specs.Stage.{Session, Setup, Stage, after_close, after_open, attached_client, claimed_client, client_at, close_client, first_stage, no_client, open_client, open_client_with}
-use Rattle.lab_run.proofs.BorderLaws.{Border}
+use Rattle.run_laws.specs.Prelude.{ap, arith, length, List, None, Option, refl, Some, subst, sym, ℕ, [], ◌++◌, ◌<◌, ◌∙◌, ◌∷◌, ◌≡◌, eq-eqb, eqb-true, append-nil}
+use Rattle.run_laws.specs.Prelude.{get_or-set_other, get_or-set_same, length-set, Bool, Err, false, nat_eq, Ok, Result, slice_index_or, true, PcmError, Segment}
+use Rattle.run_laws.specs.Prelude.{PlaybackStream, CaptureStream, Sound, Actor, Item, Line, Op, Answer, Row, first_frame, is_of_card, claim_refusal, Client}
+use Rattle.run_laws.specs.Prelude.{segments_of, card_end, client_kinds, clients_text, is_stopped, items_text, no_sound, phase_text, reader_kinds, readers_text}
+use Rattle.run_laws.specs.Prelude.{reaped_client, reaped_client_if, lab_text, lines_text, Alone, alone_at, alone_by, answers_of, given_client, HaveLines}
+use Rattle.run_laws.specs.Prelude.{IsClientAlone, own_close, own_items, own_open, reaped_by, rows_by, is_client, is_reader, ops_by, after_attach, Lobby, AtPort}
+use Rattle.run_laws.specs.Prelude.{CardEnd, after_close, after_open, attached_client, claimed_client, client_at, close_client, first_stage, no_client}
+use Rattle.run_laws.specs.Prelude.{open_client, open_client_with, Session, Setup, Stage, Border}
 use Rattle.run_laws.proofs.OwnActors.{IsOwn, ItemAlone, LeavesOthers, Own, PhaseOf, closes-own, items-size, not-own, opens-own, other-view, own-alone, view, view_of}
 use Rattle.run_laws.proofs.OwnLines.{EachAt, TextOf, cards-other, constant-at, each-at, each-other, each-size, map-at, map-size, numbered-at, phase-rows, text-each, text-of}
+use Rattle.lab_lines.specs.declared.line.Actor.TheVariants as actor
+use Rattle.lab_run.specs.Client as clients
+use Rattle.lab_run.specs.Reader as readers
 
 -- a client of a session
 abbrev client_own : Session → ℕ → Own Client

@@ -1,22 +1,9 @@
 -- The rows of one actor among those of a phase, where the phase leaves no choice.
-use Rattle.std.proofs.Common.{◌≡◌, ℕ, ◌<◌, ◌≤◌, ◌+◌, refl, sym, ◌∙◌, ap, subst, arith, length}
-use Rattle.std.proofs.lemmas.Bool.{eq-eqb}
-use Rattle.std.proofs.lemmas.Bool.Decides.{nat_tests}
-use Rattle.std.proofs.lemmas.List.{append_assoc, append-nil, map-append}
-use Rattle.std.proofs.lemmas.List.Elements.{filter-append}
-use Rattle.std.specs.Prelude.{Bool, true, false, if◌then◌else◌, nat_eq, List, [], ◌∷◌, ◌++◌, filter, map, slice_index_or, zero, suc}
-use Rattle.lab_lines.specs.declared.line.Actor.{Actor}
-use Rattle.lab_lines.specs.declared.line.Actor.TheVariants.{Card}
-use Rattle.lab_lines.specs.declared.line.Op.{Op}
+use Rattle.run_laws.specs.Prelude.{ap, arith, length, List, refl, subst, sym, ℕ, [], ◌++◌, ◌+◌, ◌<◌, ◌∙◌, ◌∷◌, ◌≡◌, ◌≤◌, eq-eqb, nat_tests, append-nil}
+use Rattle.run_laws.specs.Prelude.{append_assoc, map-append, filter-append, Bool, false, filter, if◌then◌else◌, map, nat_eq, slice_index_or, suc, true, zero}
+use Rattle.run_laws.specs.Prelude.{Actor, Card, Op, Answer, Row, played_by, with_numbers, each_text, EachMay, Kind, line_text, lines_text, LinesMay, answers_of}
+use Rattle.run_laws.specs.Prelude.{is_opening, NoneOpen, rows_by, card_row, card_rows, AtPort, CardEnd, Rules}
 use Rattle.lab_lines.specs.declared.line.Op.TheVariants as op
-use Rattle.lab_lines.specs.Script.{played_by}
-use Rattle.lab_lines.specs.declared.row.Answer.{Answer}
-use Rattle.lab_lines.specs.declared.row.Row.{Row}
-use Rattle.lab_run.specs.LabRun.{with_numbers}
-use Rattle.lab_run.specs.Lines.{EachMay, Kind, LinesMay, each_text, line_text, lines_text}
-use Rattle.lab_run.specs.OwnRows.{NoneOpen, answers_of, is_opening, rows_by}
-use Rattle.lab_run.specs.Phases.{card_row, card_rows}
-use Rattle.lab_run.specs.Rules.{AtPort, CardEnd, Rules}
 
 -- one row more, of another actor and of this one
 pub other-row : (is_theirs : Actor → Bool) (rows : List Row) (row : Row) → is_theirs row.actor ≡ false → rows_by is_theirs (rows ++ row ∷ []) ≡ rows_by is_theirs rows

@@ -1,32 +1,16 @@
 -- What a reader does where no phase leaves a choice is what it does by itself.
-use Rattle.std.proofs.Common.{◌≡◌, ℕ, ◌<◌, refl, sym, ◌∙◌, ap, subst, arith, Option, Some, None, length}
-use Rattle.std.proofs.lemmas.Bool.{eq-eqb, eqb-true}
-use Rattle.std.proofs.lemmas.List.{get_or-set_same, get_or-set_other, length-set}
-use Rattle.std.specs.Prelude.{Bool, true, false, nat_eq, List, [], ◌∷◌, ◌++◌, map, slice_index_or}
-use Rattle.wav_io.specs.Sound.{Sound}
-use Rattle.dmix_client.specs.declared.stream.PlaybackStream.{PlaybackStream}
-use Rattle.dsnoop_client.specs.declared.stream.CaptureStream.{CaptureStream}
-use Rattle.lab_lines.specs.declared.line.Actor.{Actor}
-use Rattle.lab_lines.specs.declared.line.Actor.TheVariants as actor
-use Rattle.lab_lines.specs.declared.line.Item.{Item}
-use Rattle.lab_lines.specs.declared.line.Line.{Line}
-use Rattle.lab_lines.specs.declared.line.Op.{Op}
-use Rattle.lab_lines.specs.Script.{first_frame, is_of_card}
-use Rattle.lab_lines.specs.declared.row.Answer.{Answer}
-use Rattle.lab_lines.specs.declared.row.Row.{Row}
-use Rattle.lab_run.specs.Client as clients
-use Rattle.lab_run.specs.Items.{is_reader_stopped, card_end, client_kinds, clients_text, items_text, phase_text, reader_kinds, readers_text, reaped_reader, reaped_reader_if}
-use Rattle.lab_run.specs.LabRun.{lab_text, with_numbers, runs_of}
-use Rattle.lab_run.specs.Lines.{lines_text}
-use Rattle.lab_run.specs.OwnRows.{Alone, alone_at, alone_by, answers_of, own_items, rows_by, HaveLines, IsReaderAlone, given_reader, own_close, own_open, reaped_by, runs_by}
-use Rattle.lab_run.specs.Phases.{is_client, is_reader, ops_by}
-use Rattle.lab_run.specs.Reader.{Reader}
-use Rattle.lab_run.specs.Reader as readers
-use Rattle.lab_run.specs.Rules.{AtPort, CardEnd}
-use Rattle.lab_run.specs.Stage.{Session, Setup, Stage, after_close, after_open, close_reader, first_stage, no_reader, open_reader, open_reader_with, reader_at}
-use Rattle.lab_run.proofs.BorderLaws.{Border}
+use Rattle.run_laws.specs.Prelude.{ap, arith, length, List, None, Option, refl, Some, subst, sym, ℕ, [], ◌++◌, ◌<◌, ◌∙◌, ◌∷◌, ◌≡◌, eq-eqb, eqb-true}
+use Rattle.run_laws.specs.Prelude.{get_or-set_other, get_or-set_same, length-set, Bool, false, map, nat_eq, slice_index_or, true, PlaybackStream, CaptureStream}
+use Rattle.run_laws.specs.Prelude.{Sound, Actor, Item, Line, Op, Answer, Row, first_frame, is_of_card, card_end, client_kinds, clients_text, is_reader_stopped}
+use Rattle.run_laws.specs.Prelude.{items_text, phase_text, reader_kinds, readers_text, reaped_reader, reaped_reader_if, lab_text, runs_of, with_numbers}
+use Rattle.run_laws.specs.Prelude.{lines_text, Alone, alone_at, alone_by, answers_of, given_reader, HaveLines, IsReaderAlone, own_close, own_items, own_open}
+use Rattle.run_laws.specs.Prelude.{reaped_by, rows_by, runs_by, is_client, is_reader, ops_by, Reader, AtPort, CardEnd, after_close, after_open, close_reader}
+use Rattle.run_laws.specs.Prelude.{first_stage, no_reader, open_reader, open_reader_with, reader_at, Session, Setup, Stage, Border}
 use Rattle.run_laws.proofs.OwnActors.{IsOwn, ItemAlone, LeavesOthers, Own, PhaseOf, closes-own, items-size, not-own, opens-own, other-view, own-alone, view, view_of}
 use Rattle.run_laws.proofs.OwnLines.{EachAt, TextOf, cards-other, constant-at, each-at, each-other, each-size, map-at, map-size, members_of, numbered-at, phase-rows, text-each, text-of}
+use Rattle.lab_lines.specs.declared.line.Actor.TheVariants as actor
+use Rattle.lab_run.specs.Client as clients
+use Rattle.lab_run.specs.Reader as readers
 
 -- a reader of a session
 abbrev pub reader_own : Session → ℕ → Own Reader

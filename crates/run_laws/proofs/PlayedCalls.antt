@@ -1,47 +1,26 @@
 -- What each call of a client leaves of its stretch: below a position p, which each load is at or past, nothing of it changes.
 --     Fits      a client of which nothing is placed while it waits, and no part of a frame while it moves frames
 --     Kept      a call changed nothing below p
-use Rattle.std.proofs.Common.{◌≡◌, ℕ, ◌+◌, ◌-◌, ◌≤◌, ◌⊎◌, inl, inr, refl, sym, ◌∙◌, subst, arith, Option, Some, None}
-use Rattle.std.proofs.lemmas.Bool.{false≢true}
-use Rattle.std.specs.Prelude.{Bool, true, false, ◌&&◌, nat_eq, nat_lt, if◌then◌else◌, List, [], ◌∷◌, ℤ, Result, Ok, Err, IfOk, min, max, ⊤}
-use Rattle.snd_base.specs.declared.errors.PcmError.{PcmError}
-use Rattle.snd_base.specs.declared.errors.PcmError.TheVariants as error
-use Rattle.snd_base.specs.declared.errors.XrunWhy.{XrunWhy}
-use Rattle.snd_base.specs.declared.errors.XrunWhy.TheVariants as why
-use Rattle.snd_base.specs.declared.places.Cursor.{Cursor}
-use Rattle.snd_base.specs.Places.{first_free}
-use Rattle.mix_core.specs.declared.marks.Marks.{Marks}
-use Rattle.mix_core.specs.declared.port.Ended.{Ended}
-use Rattle.mix_core.specs.declared.port.Ended.TheVariants as ended
-use Rattle.mix_core.specs.declared.port.Position.{Position}
-use Rattle.mix_core.specs.Port.{OnWhole}
-use Rattle.pcm_states.specs.declared.calls.Call.{Call}
-use Rattle.pcm_states.specs.declared.calls.Call.TheVariants as call
-use Rattle.pcm_states.specs.declared.calls.Facts.{Facts}
+use Rattle.run_laws.specs.Prelude.{arith, inl, inr, List, None, Option, refl, Some, subst, sym, ℕ, [], ◌+◌, ◌-◌, ◌∙◌, ◌∷◌, ◌≡◌, ◌≤◌, ◌⊎◌, false≢true, Bool, Err}
+use Rattle.run_laws.specs.Prelude.{false, IfOk, if◌then◌else◌, max, min, nat_eq, nat_lt, Ok, Result, true, ℤ, ⊤, ◌&&◌, PcmError, XrunWhy, Cursor, first_free}
+use Rattle.run_laws.specs.Prelude.{Call, Facts, State, Draining, Paused, Prepared, Running, done_in, first_outcome, if_gone, if_late, if_over, if_played}
+use Rattle.run_laws.specs.Prelude.{next_of, still_draining, Playback, is_moving, nothing_found, Marks, Ended, Position, OnWhole, ends, Commit, PlaybackStream}
+use Rattle.run_laws.specs.Prelude.{accepted_if, after_start, after_sync, Answered, committed_by, end_channel, end_of_commit, facts_of, found_at, going_on}
+use Rattle.run_laws.specs.Prelude.{in_draining, is_paused, is_prepared, is_running, is_stop, late_at, over_of, pending_of, seen_at, segment_of, start_count}
+use Rattle.run_laws.specs.Prelude.{start_frame, started_in, stopped_in, sync_count, taken_of, with_number, with_outcome, written_after, commits, drain_on}
+use Rattle.run_laws.specs.Prelude.{nothing, starts, syncs, takes_more, write_on, IsStart, IsFrameStep, after_rewind, back_of, checks, last_channel, last_laid}
+use Rattle.run_laws.specs.Prelude.{rewind_on, rewindable_of, take_frames, taken_back, takes_back, avail_of, queued_of, ring_sample, count_with, ring_with}
+use Rattle.run_laws.specs.Prelude.{Sound, Op, call_of, call_of-says, is_new_stretch, Parts, running-moves, running-transfers, start-unprepared, step-moves}
 use Rattle.pcm_states.specs.declared.calls.Outcome.{Outcome}
-use Rattle.pcm_states.specs.declared.states.State.{State}
-use Rattle.pcm_states.specs.declared.states.State.TheVariants.{Draining, Paused, Prepared, Running, Setup}
-use Rattle.pcm_states.specs.Table.{done_in, first_outcome, if_gone, if_late, if_over, if_played, next_of, still_draining}
-use Rattle.pcm_stream.specs.declared.direction.Direction.TheVariants.{Playback}
-use Rattle.pcm_stream.specs.Status.{is_moving, nothing_found}
-use Rattle.course.specs.Course.{ends}
-use Rattle.dmix_client.specs.declared.commit.Commit.{Commit}
-use Rattle.dmix_client.specs.declared.stream.PlaybackStream.{PlaybackStream}
-use Rattle.dmix_client.specs.Calls.{Answered, accepted_if, after_start, after_sync, committed_by, end_channel, end_of_commit, facts_of, found_at, in_draining, is_paused, is_prepared, is_running, is_stop, late_at, over_of, pending_of, seen_at, segment_of, start_count, start_frame, started_in, stopped_in, sync_count, taken_of, with_number, with_outcome, written_after, going_on}
-use Rattle.dmix_client.specs.Course.{commits, drain_on, nothing, starts, syncs, takes_more, write_on}
-use Rattle.dmix_client.specs.EachCall.{IsStart}
-use Rattle.dmix_client.specs.Port.{IsFrameStep}
-use Rattle.dmix_client.specs.Rewind.{after_rewind, back_of, checks, last_channel, last_laid, rewind_on, rewindable_of, take_frames, taken_back, takes_back}
-use Rattle.dmix_client.specs.View.{avail_of, queued_of, ring_sample}
-use Rattle.dmix_client.specs.Writes.{count_with, ring_with}
-use Rattle.lab_lines.specs.declared.line.Op.{Op}
-use Rattle.wav_io.specs.Sound.{Sound}
-use Rattle.lab_run.specs.Client.{call_of}
-use Rattle.lab_run.proofs.CallParts.{Parts, call_of-says, is_new_stretch, running-moves, running-transfers, start-unprepared, step-moves}
+use Rattle.pcm_states.specs.declared.states.State.TheVariants.{Setup}
 use Rattle.run_laws.proofs.Onward.{Channels, stepped-unprepared}
 use Rattle.run_laws.proofs.PlayedCourses.{CommitEnd, From, FromSo, From-map, From-then, RewindEnd, commits-keep, frames-back, found-from, from-so}
 use Rattle.run_laws.proofs.PlayedSegments.{IsAlike, IsPast, alike-same, alike-then}
 use Rattle.run_laws.proofs.Withdrawn.{below-sum}
+use Rattle.snd_base.specs.declared.errors.PcmError.TheVariants as error
+use Rattle.snd_base.specs.declared.errors.XrunWhy.TheVariants as why
+use Rattle.mix_core.specs.declared.port.Ended.TheVariants as ended
+use Rattle.pcm_states.specs.declared.calls.Call.TheVariants as call
 
 -- ---- a client
 

@@ -1,34 +1,16 @@
 -- What the steps of a course may change: no sample below a position p, where each position that it loads is at p or past it.
 --     From, Keeps      a course's results have a fact, as far as its steps keep to p; of Keeps it loads nothing
 --     CommitEnd, RewindEnd      what a commit, and a rewind, leave: nothing is changed below p
-use Rattle.std.proofs.Common.{◌≡◌, ℕ, ◌+◌, ◌<◌, ◌≤◌, ◌⊎◌, inl, inr, refl, sym, ◌∙◌, ap, subst, arith, Option, Some, None}
-use Rattle.std.proofs.lemmas.Bool.Decides.{nat_tests}
-use Rattle.std.specs.Prelude.{Bool, true, false, nat_eq, if◌then◌else◌, List, [], ◌∷◌, length, ℤ, zero, suc, Contains}
-use Rattle.bindings.specs.Bound.{rising}
-use Rattle.mix_core.specs.declared.marks.Marks.{Marks}
-use Rattle.mix_core.specs.declared.port.Ended.{Ended}
-use Rattle.mix_core.specs.declared.port.Ended.TheVariants as ended
-use Rattle.mix_core.specs.declared.port.Position.{Position}
-use Rattle.mix_core.specs.Port.{OnWhole}
-use Rattle.snoop_core.specs.declared.port.Got.{Got}
-use Rattle.snoop_core.specs.declared.port.Got.TheVariants as got
-use Rattle.course.specs.Course.{◌>>=◌, Course, ends, gets, lays, loads}
-use Rattle.wav_io.specs.Sound.{Sound}
-use Rattle.dmix_client.specs.declared.commit.Commit.{Commit}
-use Rattle.dmix_client.specs.declared.stream.PlaybackStream.{PlaybackStream}
-use Rattle.dmix_client.specs.Calls.{Answered}
-use Rattle.dmix_client.specs.Course.{commits, go_on, lay_each, lay_frame, lay_frames, looks, nothing, one_frame_more, one_more}
-use Rattle.dmix_client.specs.Rewind.{back_on, rewind_left, take_each, take_frames}
-use Rattle.dmix_client.specs.View.{ring_sample}
-use Rattle.lab_lines.specs.declared.line.Op.{Op}
-use Rattle.lab_lines.specs.declared.line.Op.TheVariants as op
-use Rattle.lab_lines.specs.declared.row.Answer.{Answer}
-use Rattle.lab_run.specs.Client.{Client, after_call, begins, call_of, client_kind, line_by, line_if}
-use Rattle.lab_run.specs.Lines.{LineMay}
-use Rattle.lab_run.specs.Rules.{AtPort, May, Rules, with_asks}
-use Rattle.lab_run.proofs.CallParts.{IsSaying}
-use Rattle.run_laws.proofs.RunGoesOn.{stop-seen}
+use Rattle.run_laws.specs.Prelude.{ap, arith, inl, inr, length, List, None, Option, refl, Some, subst, sym, ℕ, [], ◌+◌, ◌<◌, ◌∙◌, ◌∷◌, ◌≡◌, ◌≤◌, ◌⊎◌, nat_tests}
+use Rattle.run_laws.specs.Prelude.{Bool, Contains, false, if◌then◌else◌, nat_eq, suc, true, zero, ℤ, rising, Marks, Ended, Position, OnWhole, Got, Course, ends}
+use Rattle.run_laws.specs.Prelude.{gets, lays, loads, ◌>>=◌, Commit, PlaybackStream, Answered, commits, go_on, lay_each, lay_frame, lay_frames, looks, nothing}
+use Rattle.run_laws.specs.Prelude.{one_frame_more, one_more, back_on, rewind_left, take_each, take_frames, ring_sample, Sound, Op, Answer, after_call, begins}
+use Rattle.run_laws.specs.Prelude.{call_of, Client, client_kind, line_by, line_if, LineMay, AtPort, May, Rules, with_asks, IsSaying}
 use Rattle.run_laws.proofs.Onward.{Channels, channels-rise}
+use Rattle.run_laws.proofs.RunGoesOn.{stop-seen}
+use Rattle.mix_core.specs.declared.port.Ended.TheVariants as ended
+use Rattle.snoop_core.specs.declared.port.Got.TheVariants as got
+use Rattle.lab_lines.specs.declared.line.Op.TheVariants as op
 
 -- ---- courses
 

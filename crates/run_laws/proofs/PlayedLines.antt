@@ -1,30 +1,10 @@
 -- What each line of a client leaves of its segments: below a position p, which each load is at or past, they place the same.
-use Rattle.std.proofs.Common.{◌≡◌, ℕ, ◌<◌, ◌≤◌, ◌⊎◌, inl, inr, refl, sym, ◌∙◌, ap, subst, arith, List, [], ◌∷◌, ◌++◌, Option, Some, None}
-use Rattle.std.proofs.lemmas.Bool.{false≢true}
-use Rattle.std.proofs.lemmas.List.{append-nil}
-use Rattle.std.specs.Prelude.{Bool, true, false, not, ◌&&◌, nat_eq, if◌then◌else◌, Ok, IfSome, Contains}
-use Rattle.snd_base.specs.declared.errors.PcmError.{PcmError}
-use Rattle.mix_core.specs.declared.marks.Marks.{Marks}
-use Rattle.pcm_states.specs.declared.calls.Call.TheVariants as call
-use Rattle.pcm_states.specs.declared.states.State.{State}
-use Rattle.pcm_states.specs.declared.states.State.TheVariants.{Paused, Prepared, Running}
-use Rattle.pcm_stream.specs.declared.direction.Direction.TheVariants.{Playback}
-use Rattle.pcm_stream.specs.declared.status.Status.{Status}
-use Rattle.pcm_stream.specs.Status.{refusal_of}
-use Rattle.course.specs.Course.{◌>>=◌, ends}
-use Rattle.wav_io.specs.Sound.{Sound}
-use Rattle.dmix_client.specs.declared.stream.PlaybackStream.{PlaybackStream}
-use Rattle.dmix_client.specs.Calls.{Answered, after_prepare, after_resume, after_start, is_paused, is_prepared, pending_of, segment_of, start_count, started_in, with_new_base}
-use Rattle.dmix_client.specs.Course.{admitted_by, pause_course, resumes}
-use Rattle.lab_lines.specs.declared.line.Op.{Op}
-use Rattle.lab_lines.specs.declared.line.Op.TheVariants as op
-use Rattle.lab_lines.specs.declared.row.Answer.{Answer}
-use Rattle.lab_lines.specs.declared.row.Row.{Row}
-use Rattle.lab_run.specs.Client.{Client, after_call, call_answer, call_of, client_kind, done_answer, ended_by, present_of, segments_of, stretch_of}
-use Rattle.lab_run.specs.Lines.{LineMay, LinesMay}
-use Rattle.lab_run.specs.Rules.{AtPort, Rules}
-use Rattle.lab_run.specs.Stage.{Session, Setup}
-use Rattle.lab_run.proofs.CallParts.{some-none}
+use Rattle.run_laws.specs.Prelude.{ap, arith, inl, inr, List, None, Option, refl, Some, subst, sym, ℕ, [], ◌++◌, ◌<◌, ◌∙◌, ◌∷◌, ◌≡◌, ◌≤◌, ◌⊎◌, false≢true}
+use Rattle.run_laws.specs.Prelude.{append-nil, Bool, Contains, false, IfSome, if◌then◌else◌, nat_eq, not, Ok, true, ◌&&◌, PcmError, State, Paused, Prepared}
+use Rattle.run_laws.specs.Prelude.{Running, Playback, Status, refusal_of, Marks, ends, ◌>>=◌, PlaybackStream, after_prepare, after_resume, after_start}
+use Rattle.run_laws.specs.Prelude.{Answered, is_paused, is_prepared, pending_of, segment_of, start_count, started_in, with_new_base, admitted_by, pause_course}
+use Rattle.run_laws.specs.Prelude.{resumes, Sound, Op, Answer, Row, after_call, call_answer, call_of, Client, client_kind, done_answer, ended_by, present_of}
+use Rattle.run_laws.specs.Prelude.{segments_of, stretch_of, LineMay, LinesMay, AtPort, Rules, Session, Setup, some-none}
 use Rattle.run_laws.proofs.Going.{still-client}
 use Rattle.run_laws.proofs.Onward.{Channels}
 use Rattle.run_laws.proofs.OnwardLines.{InOpen, append-none}
@@ -32,6 +12,8 @@ use Rattle.run_laws.proofs.PlayedCalls.{CanStart, Fits, Kept, Started, call-kept
 use Rattle.run_laws.proofs.PlayedCourses.{From, From-map, From-then, found-from, line-from}
 use Rattle.run_laws.proofs.PlayedSegments.{IsAlike, IsPast, alike-same, heard, heard-append, stretch-alike, stretch-past}
 use Rattle.run_laws.proofs.Stages.{IsKept}
+use Rattle.pcm_states.specs.declared.calls.Call.TheVariants as call
+use Rattle.lab_lines.specs.declared.line.Op.TheVariants as op
 
 -- ---- a line of an open client
 

@@ -2,27 +2,14 @@
 --     IsPast      a segment that places nothing there
 --     GoesOn, IsAlike      a segment that goes on as another one, at most at p or past it; two that place the same below p
 --     alike-at, past-at      what they place at a frame below p
-use Rattle.std.proofs.Common.{◌≡◌, ℕ, ◌+◌, ◌<◌, ◌≤◌, ◌⊎◌, inl, inr, refl, sym, ◌∙◌, ap, subst, arith, List, [], ◌∷◌, ◌++◌, Option, Some, None, length}
-use Rattle.std.proofs.lemmas.Bool.Decides.{nat_tests}
-use Rattle.std.proofs.lemmas.List.{append-nil}
-use Rattle.std.proofs.lemmas.List.Concat.{flat_map-append}
-use Rattle.std.specs.List.{flat_map, range_with_len}
-use Rattle.std.specs.Prelude.{Bool, true, false, ◌&&◌, nat_eq, nat_lt, zero, suc, ℤ, slice_get, slice_index_or, take, if◌then◌else◌}
-use Rattle.snd_base.specs.declared.places.Segment.{Segment}
-use Rattle.bindings.specs.Bound.{rising}
-use Rattle.mix_core.specs.declared.port.Entry.{Entry}
-use Rattle.mix_core.specs.HistoryLaws.{at-append}
-use Rattle.mix_core.specs.Laid as laid
-use Rattle.wav_io.specs.Sound.{Sound}
-use Rattle.dmix_client.specs.declared.stream.PlaybackStream.{PlaybackStream}
-use Rattle.dmix_client.specs.Calls.{segment_of}
-use Rattle.dmix_client.specs.Expansion.{expand, frame_entries, sample_at}
-use Rattle.lab_run.specs.Client.{stretch_of}
-use Rattle.lab_run.specs.LabRun.{entries_by}
-use Rattle.lab_run.specs.Stage.{Session, Setup}
-use Rattle.run_laws.proofs.Expanded.{other-frame}
+use Rattle.run_laws.specs.Prelude.{ap, arith, inl, inr, length, List, None, Option, refl, Some, subst, sym, ℕ, [], ◌++◌, ◌+◌, ◌<◌, ◌∙◌, ◌∷◌, ◌≡◌, ◌≤◌, ◌⊎◌}
+use Rattle.run_laws.specs.Prelude.{nat_tests, append-nil, flat_map-append, flat_map, range_with_len, Bool, false, if◌then◌else◌, nat_eq, nat_lt, slice_get}
+use Rattle.run_laws.specs.Prelude.{slice_index_or, suc, take, true, zero, ℤ, ◌&&◌, Segment, rising, Entry, at-append, PlaybackStream, segment_of, expand}
+use Rattle.run_laws.specs.Prelude.{frame_entries, sample_at, Sound, stretch_of, entries_by, Session, Setup}
 use Rattle.run_laws.proofs.AtMostOne.{before-none, behind-none}
+use Rattle.run_laws.proofs.Expanded.{other-frame}
 use Rattle.run_laws.proofs.Onward.{begun}
+use Rattle.mix_core.specs.Laid as laid
 
 -- nothing of a segment is below p
 abbrev pub IsPast : ℕ → Segment → Type 0

@@ -1,42 +1,22 @@
 -- What a card has played stays as it is: no item of a body changes what the segments place below the card's position.
-use Rattle.std.proofs.Common.{◌≡◌, ℕ, ◌+◌, ◌-◌, ◌*◌, ◌<◌, ◌≤◌, refl, sym, ◌∙◌, ap, subst, arith, List, [], ◌∷◌, ◌++◌, Option, Some, None}
-use Rattle.std.proofs.lemmas.List.{append-nil}
-use Rattle.std.proofs.lemmas.Nat.{div_below}
-use Rattle.std.proofs.lemmas.List.Concat.{flat_map-append}
-use Rattle.std.specs.List.{flat_map, range_with_len}
-use Rattle.std.specs.Prelude.{Bool, true, false, zero, suc, ◌/◌, ◌%◌, ℤ, IfSome, map, slice_index_or, slice_set, Contains}
-use Rattle.snd_base.specs.declared.geometry.Geometry.{Geometry}
-use Rattle.snd_base.specs.declared.places.Segment.{Segment}
-use Rattle.bindings.specs.Bound.{AreBindings}
-use Rattle.bindings.specs.RisingLaws.{length-rising}
-use Rattle.lap_word.specs.Clamp.{clamp_of}
-use Rattle.mix_core.specs.HistoryLaws.{at-append}
-use Rattle.mix_core.specs.Laid as laid
-use Rattle.mix_core.specs.Laid.{sum_of_samples}
-use Rattle.dmix_client.specs.declared.stream.PlaybackStream.{PlaybackStream}
-use Rattle.dsnoop_client.specs.declared.stream.CaptureStream as reading
-use Rattle.lab_lines.specs.declared.line.Actor.{Actor}
-use Rattle.lab_lines.specs.declared.line.Actor.TheVariants as actor
-use Rattle.lab_lines.specs.declared.line.Item.{Item}
-use Rattle.lab_lines.specs.declared.line.Item.TheVariants as item
-use Rattle.lab_lines.specs.declared.line.Op.{Op}
-use Rattle.lab_lines.specs.declared.row.Row.{Row}
-use Rattle.lab_lines.specs.Script.{first_frame}
-use Rattle.lab_run.specs.Client.{Client, segments_of}
-use Rattle.lab_run.specs.Items.{ItemMay, ItemsMay, client_kinds, is_stopped, reaped_client, reaped_client_if, rules_of}
-use Rattle.lab_run.specs.LabRun.{all_segments, entries_by, entries_of, mixed_at, with_numbers}
-use Rattle.lab_run.specs.Lines.{EachMay}
-use Rattle.lab_run.specs.Phases.{is_client, ops_by, phase_positions}
-use Rattle.lab_run.specs.Rules.{AtPort, Rules}
-use Rattle.lab_run.specs.Stage.{Session, Setup, Stage, client_at, close_client, close_reader, ended_client, first_stage, no_client, open_client, open_reader, reader_at}
-use Rattle.lab_run.proofs.BorderLaws.{Border, close-by, close_client-by, close_reader-by, open-by, open_client-by, open_reader-by}
-use Rattle.run_laws.specs.OneSample.{AreBound}
+use Rattle.run_laws.specs.Prelude.{ap, arith, List, None, Option, refl, Some, subst, sym, ℕ, [], ◌*◌, ◌++◌, ◌+◌, ◌-◌, ◌<◌, ◌∙◌, ◌∷◌, ◌≡◌, ◌≤◌, append-nil}
+use Rattle.run_laws.specs.Prelude.{flat_map-append, div_below, flat_map, range_with_len, Bool, Contains, false, IfSome, map, slice_index_or, slice_set, suc}
+use Rattle.run_laws.specs.Prelude.{true, zero, ℤ, ◌%◌, ◌/◌, Geometry, Segment, AreBindings, length-rising, clamp_of, at-append, sum_of_samples, PlaybackStream}
+use Rattle.run_laws.specs.Prelude.{Actor, Item, Op, Row, first_frame, Client, segments_of, client_kinds, is_stopped, ItemMay, ItemsMay, reaped_client}
+use Rattle.run_laws.specs.Prelude.{reaped_client_if, rules_of, all_segments, entries_by, entries_of, mixed_at, with_numbers, EachMay, is_client, ops_by}
+use Rattle.run_laws.specs.Prelude.{phase_positions, AtPort, Rules, client_at, close_client, close_reader, ended_client, first_stage, no_client, open_client}
+use Rattle.run_laws.specs.Prelude.{open_reader, reader_at, Session, Setup, Stage, Border, close-by, close_client-by, close_reader-by, open-by, open_client-by}
+use Rattle.run_laws.specs.Prelude.{open_reader-by, AreBound}
 use Rattle.run_laws.specs.Played.{PlayedStays}
 use Rattle.run_laws.proofs.Onward.{Channels}
 use Rattle.run_laws.proofs.PlayedLines.{FitsWhere, clients-fit, lines-heard}
 use Rattle.run_laws.proofs.PlayedSegments.{heard}
 use Rattle.run_laws.proofs.Published.{published-past}
 use Rattle.run_laws.proofs.Stages.{AreSo, item-kept, reached-so}
+use Rattle.mix_core.specs.Laid as laid
+use Rattle.dsnoop_client.specs.declared.stream.CaptureStream as reading
+use Rattle.lab_lines.specs.declared.line.Actor.TheVariants as actor
+use Rattle.lab_lines.specs.declared.line.Item.TheVariants as item
 
 -- ---- the segments of all clients
 

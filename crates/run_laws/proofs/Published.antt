@@ -1,10 +1,7 @@
 -- What a phase publishes isn't before the position at which it begins, or after that at which it ends.
-use Rattle.std.proofs.Common.{ℕ, ◌+◌, ◌<◌, ◌≤◌, subst, arith, List, [], ◌∷◌, length}
-use Rattle.std.proofs.lemmas.List.Sums.{sum_by-cons}
-use Rattle.std.specs.List.{AllByRecursion, range_with_len}
-use Rattle.std.specs.Prelude.{Bool, true, false, ◌==◌, ◌%◌, zero, suc, if◌then◌else◌, filter, slice_index_or, Contains}
-use Rattle.lab_lines.specs.declared.line.Line.{Line}
-use Rattle.lab_run.specs.Phases.{on_the_way, phase_positions, played_at, played_in, published_by}
+use Rattle.run_laws.specs.Prelude.{arith, length, List, subst, ℕ, [], ◌+◌, ◌<◌, ◌∷◌, ◌≤◌, sum_by-cons, AllByRecursion, range_with_len, Bool, Contains, false}
+use Rattle.run_laws.specs.Prelude.{filter, if◌then◌else◌, slice_index_or, suc, true, zero, ◌%◌, ◌==◌, Line, on_the_way, phase_positions, played_at, played_in}
+use Rattle.run_laws.specs.Prelude.{published_by}
 use Rattle.run_laws.proofs.Lists.{each-append}
 
 range-each : (P : ℕ → Type 0) (first n : ℕ) → ((q : ℕ) → first ≤ q → q < first + n → P q) → AllByRecursion P (range_with_len first n)

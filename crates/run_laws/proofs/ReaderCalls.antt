@@ -1,33 +1,18 @@
 -- What a line of a reader is answered has a text in a report, and its state afterwards.
-use Rattle.std.proofs.Common.{◌≡◌, ℕ, ◌+◌, subst, Option, Some, None}
-use Rattle.std.specs.Prelude.{Bool, true, false, ◌&&◌, nat_eq, nat_lt, if◌then◌else◌, Ok, Err, IfSome, ⊤}
-use Rattle.snd_base.specs.declared.errors.PcmError.{PcmError}
-use Rattle.snd_base.specs.declared.errors.PcmError.TheVariants as error
-use Rattle.snd_base.specs.declared.errors.XrunWhy.TheVariants as why
-use Rattle.mix_core.specs.declared.port.Position.{Position}
-use Rattle.pcm_states.specs.declared.calls.Call.{Call}
-use Rattle.pcm_states.specs.declared.calls.Call.TheVariants as call
-use Rattle.pcm_states.specs.declared.states.State.TheVariants.{Running}
-use Rattle.pcm_states.specs.Table.{next_of}
-use Rattle.pcm_stream.specs.declared.direction.Direction.TheVariants.{Capture}
-use Rattle.pcm_stream.specs.Status.{refusal_of}
-use Rattle.course.specs.Course.{ends}
-use Rattle.course.specs.Gives.{Gives, Gives-behind, Gives-map}
-use Rattle.snoop_core.specs.declared.port.Got.{Got}
-use Rattle.snoop_core.specs.declared.port.Got.TheVariants as got
-use Rattle.dsnoop_client.specs.declared.stream.CaptureStream.{CaptureStream}
-use Rattle.dsnoop_client.specs.Calls.{Answered, facts_with, with_answer, over_of, read_after, read_to, seen_at, with_outcome, after_start, after_sync, taken_of, waits, with_avail}
-use Rattle.dsnoop_client.specs.Course.{gets_frames, starts, syncs, transfer_on, transfers}
+use Rattle.run_laws.specs.Prelude.{None, Option, Some, subst, ℕ, ◌+◌, ◌≡◌, Bool, Err, false, IfSome, if◌then◌else◌, nat_eq, nat_lt, Ok, true, ⊤, ◌&&◌, PcmError}
+use Rattle.run_laws.specs.Prelude.{Call, Running, next_of, Capture, refusal_of, Position, Got, ends, Gives, Gives-behind, Gives-map, CaptureStream, facts_with}
+use Rattle.run_laws.specs.Prelude.{read_after, read_to, waits, with_answer, with_avail, gets_frames, transfer_on, transfers, Op, Answer, HasStateText, HasText}
+use Rattle.run_laws.specs.Prelude.{count_answer, done_answer, Reader, gives-so, GivesSo, reader_line-gives}
+use Rattle.dsnoop_client.specs.Calls.{Answered, over_of, seen_at, with_outcome, after_start, after_sync, taken_of}
+use Rattle.dsnoop_client.specs.Course.{starts, syncs}
 use Rattle.dsnoop_client.specs.View.{avail_of}
-use Rattle.lab_lines.specs.declared.line.Op.{Op}
-use Rattle.lab_lines.specs.declared.row.Answer.{Answer}
-use Rattle.lab_report.specs.Text.{HasStateText, HasText}
-use Rattle.lab_run.specs.Client.{count_answer, done_answer}
-use Rattle.lab_run.specs.Reader.{Reader, after_call, call_of, line_by}
-use Rattle.lab_run.proofs.CallParts.{GivesSo, gives-so}
-use Rattle.lab_run.proofs.EachLine.{reader_line-gives}
+use Rattle.lab_run.specs.Reader.{after_call, call_of, line_by}
 use Rattle.lab_run.proofs.ReadParts.{Parts, call_of-says}
 use Rattle.run_laws.proofs.TableLaws.{CanReport, CanReportIn, next-reports, refusal-reports, reported-reports}
+use Rattle.snd_base.specs.declared.errors.PcmError.TheVariants as error
+use Rattle.snd_base.specs.declared.errors.XrunWhy.TheVariants as why
+use Rattle.pcm_states.specs.declared.calls.Call.TheVariants as call
+use Rattle.snoop_core.specs.declared.port.Got.TheVariants as got
 
 -- a reader's state has a text
 abbrev pub HasState : CaptureStream → Type 0

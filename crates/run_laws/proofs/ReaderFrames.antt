@@ -1,32 +1,20 @@
 -- A reader's frames are captured ones: each that it gets is after the others, and below the position known. So they are at most as many as the card has captured.
-use Rattle.std.proofs.Common.{◌≡◌, ℕ, ◌+◌, ◌-◌, ◌≤◌, ◌⊎◌, inl, inr, refl, sym, ap, subst, arith, length, List, [], ◌∷◌, Option, Some, None, zero, suc}
-use Rattle.std.specs.Prelude.{Bool, true, false, ◌&&◌, ◌++◌, nat_eq, nat_lt, if◌then◌else◌, Result, Ok, Err, ⊤, unwrap_or}
-use Rattle.std.specs.List.{range_with_len}
-use Rattle.snd_base.specs.declared.errors.PcmError.{PcmError}
-use Rattle.snd_base.specs.declared.errors.PcmError.TheVariants as error
-use Rattle.mix_core.specs.declared.port.Position.{Position}
-use Rattle.pcm_states.specs.declared.calls.Call.{Call}
-use Rattle.pcm_states.specs.declared.calls.Call.TheVariants as call
+use Rattle.run_laws.specs.Prelude.{ap, arith, inl, inr, length, List, None, Option, refl, Some, subst, sym, ℕ, [], ◌++◌, ◌+◌, ◌-◌, ◌∷◌, ◌≡◌, ◌≤◌, ◌⊎◌}
+use Rattle.run_laws.specs.Prelude.{range_with_len, Bool, Err, false, if◌then◌else◌, nat_eq, nat_lt, Ok, Result, suc, true, unwrap_or, zero, ⊤, ◌&&◌, PcmError}
+use Rattle.run_laws.specs.Prelude.{Call, State, next_of, Position, Got, ends, ◌>>=◌, CaptureStream, facts_with, read_after, read_to, waits, with_avail, get_on}
+use Rattle.run_laws.specs.Prelude.{gets_frames, transfer_on, transfers, Op, Answer, Failed, count_answer, done_answer, frames_by, Reader, AreRisingFrames}
 use Rattle.pcm_states.specs.declared.calls.Outcome.{Outcome}
-use Rattle.pcm_states.specs.declared.states.State.{State}
-use Rattle.pcm_states.specs.declared.states.State.TheVariants as state
-use Rattle.pcm_states.specs.Table.{next_of}
-use Rattle.course.specs.Course.{◌>>=◌, ends}
-use Rattle.snoop_core.specs.declared.port.Got.{Got}
-use Rattle.snoop_core.specs.declared.port.Got.TheVariants as got
-use Rattle.dsnoop_client.specs.declared.stream.CaptureStream.{CaptureStream}
-use Rattle.dsnoop_client.specs.Calls.{Answered, facts_with, in_state, over_of, read_after, read_to, seen_at, with_outcome, after_sync, taken_of, waits, with_avail}
-use Rattle.dsnoop_client.specs.Course.{get_on, gets_frames, one_more, starts, syncs, transfer_on, transfers}
+use Rattle.dsnoop_client.specs.Calls.{Answered, in_state, over_of, seen_at, with_outcome, after_sync, taken_of}
+use Rattle.dsnoop_client.specs.Course.{one_more, starts, syncs}
 use Rattle.dsnoop_client.specs.View.{avail_of, is_running}
-use Rattle.lab_lines.specs.declared.line.Op.{Op}
-use Rattle.lab_lines.specs.declared.line.Op.TheVariants as op
-use Rattle.lab_lines.specs.declared.row.Answer.{Answer}
-use Rattle.lab_lines.specs.declared.row.Answer.TheVariants.{Failed}
-use Rattle.lab_run.specs.Client.{count_answer, done_answer}
-use Rattle.lab_run.specs.Reader.{Reader, after_call, call_of, frames_by, line_by, line_if}
-use Rattle.run_laws.specs.Captured.{AreRisingFrames}
+use Rattle.lab_run.specs.Reader.{after_call, call_of, line_by, line_if}
 use Rattle.lab_run.proofs.ReadParts.{Parts, call_of-says}
 use Rattle.run_laws.proofs.Known.{AllKnown, AllKnown-then, KnownSo, known-so}
+use Rattle.snd_base.specs.declared.errors.PcmError.TheVariants as error
+use Rattle.pcm_states.specs.declared.calls.Call.TheVariants as call
+use Rattle.pcm_states.specs.declared.states.State.TheVariants as state
+use Rattle.snoop_core.specs.declared.port.Got.TheVariants as got
+use Rattle.lab_lines.specs.declared.line.Op.TheVariants as op
 
 -- ---- frames that rise
 

@@ -1,23 +1,10 @@
 -- What the readers recorded is the captured frames of their runs.
-use Rattle.std.proofs.Common.{◌≡◌, ℕ, ◌+◌, ◌*◌, refl, sym, ◌∙◌, ap, subst, arith, List, [], ◌∷◌, ◌++◌, length, Option, None, ◌⊎◌, inl, inr, Some}
-use Rattle.std.proofs.lemmas.Bool.{eqb-true}
-use Rattle.std.proofs.lemmas.List.{length-append}
-use Rattle.std.proofs.lemmas.List.FromFn.{length-range_with_len}
-use Rattle.std.specs.List.{flat_map, range_with_len}
-use Rattle.std.specs.Prelude.{ℤ, Bool, true, false, suc, nat_eq, map, slice_index_or, if◌then◌else◌, zero, slice_get}
-use Rattle.wav_io.specs.Sound.{Sound}
-use Rattle.lab_lines.specs.declared.line.Item.{Item}
-use Rattle.lab_lines.specs.declared.script.CardLine.{CardLine}
-use Rattle.lab_lines.specs.declared.script.ReaderLine.{ReaderLine}
-use Rattle.lab_lines.specs.declared.script.Script.{Script}
-use Rattle.lab_run.specs.LabRun.{LabRun, Outcome, captured_sample, joined_runs, runs_of, bindings_of}
-use Rattle.lab_run.specs.Openings.{AreReaderOpenings, IsSessionOf, read_by}
-use Rattle.lab_run.specs.OwnRows.{rows_by, runs_by}
-use Rattle.lab_run.specs.Phases.{is_reader}
-use Rattle.lab_run.specs.Stage.{Session, Setup}
-use Rattle.lab_run.specs.Stretches.{AreSlices, ReadersReadInSlices, ReadsInSlices}
-use Rattle.run_laws.specs.Growth.{recorded_from-size}
-use Rattle.run_laws.specs.Recordings.{AreRecordingsOf, IsRecordingOf, bindings_at, frames_in_runs, frames_of_runs, recording_of, ReadersAreBound}
+use Rattle.run_laws.specs.Prelude.{ap, arith, inl, inr, length, List, None, Option, refl, Some, subst, sym, ℕ, [], ◌*◌, ◌++◌, ◌+◌, ◌∙◌, ◌∷◌, ◌≡◌, ◌⊎◌, eqb-true}
+use Rattle.run_laws.specs.Prelude.{length-append, length-range_with_len, flat_map, range_with_len, Bool, false, if◌then◌else◌, map, nat_eq, slice_get}
+use Rattle.run_laws.specs.Prelude.{slice_index_or, suc, true, zero, ℤ, Sound, Item, CardLine, ReaderLine, Script, bindings_of, captured_sample, joined_runs}
+use Rattle.run_laws.specs.Prelude.{LabRun, Outcome, runs_of, AreReaderOpenings, IsSessionOf, read_by, rows_by, runs_by, is_reader, Session, Setup, AreSlices}
+use Rattle.run_laws.specs.Prelude.{ReadersReadInSlices, ReadsInSlices, recorded_from-size, AreRecordingsOf, bindings_at, frames_in_runs, frames_of_runs}
+use Rattle.run_laws.specs.Prelude.{IsRecordingOf, ReadersAreBound, recording_of}
 use Rattle.run_laws.proofs.OwnLines.{map-size}
 use Rattle.run_laws.proofs.Sizes.{run-size}
 

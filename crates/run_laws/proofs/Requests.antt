@@ -1,21 +1,10 @@
 -- The rows of a phase are those of its lines in the order of a report: the card's, then those of each client and of each reader.
-use Rattle.std.proofs.Common.{◌≡◌, ◌≢◌, ℕ, ◌+◌, ◌-◌, ◌<◌, ◌≤◌, ◌==◌, refl, sym, ◌∙◌, ap, arith, List, [], ◌∷◌, ◌++◌, map, zero, suc, append_assoc}
-use Rattle.std.proofs.lemmas.Bool.{eqb-true}
-use Rattle.std.proofs.lemmas.Bool.Decides.{nat_tests}
-use Rattle.std.proofs.lemmas.List.{append-nil}
-use Rattle.std.proofs.lemmas.List.Elements.{All-head, All-tail}
-use Rattle.std.specs.Prelude.{Bool, true, false, All}
-use Rattle.lab_lines.specs.declared.line.Actor.{Actor}
-use Rattle.lab_lines.specs.declared.line.Actor.TheVariants.{Card, Client, Reader}
-use Rattle.lab_lines.specs.declared.line.Line.{Line}
-use Rattle.lab_lines.specs.declared.line.Op.{Op}
+use Rattle.run_laws.specs.Prelude.{ap, arith, List, refl, sym, ℕ, [], ◌++◌, ◌+◌, ◌-◌, ◌<◌, ◌∙◌, ◌∷◌, ◌≡◌, ◌≢◌, ◌≤◌, eqb-true, nat_tests, append-nil}
+use Rattle.run_laws.specs.Prelude.{append_assoc, All-head, All-tail, All, Bool, false, map, suc, true, zero, ◌==◌, Actor, Card, Line, Op, Request, IsActor}
+use Rattle.run_laws.specs.Prelude.{request_of_row, is_of_card, played_by, before_place, in_order, of_place, place_of_actor, request_of, card_row, card_rows}
+use Rattle.run_laws.specs.Prelude.{is_client, is_reader, ops_by}
+use Rattle.lab_lines.specs.declared.line.Actor.TheVariants.{Client, Reader}
 use Rattle.lab_lines.specs.declared.line.Op.TheVariants as op
-use Rattle.lab_lines.specs.Limits.{IsActor}
-use Rattle.lab_lines.specs.Script.{is_of_card, played_by}
-use Rattle.lab_lines.specs.declared.request.Request.{Request}
-use Rattle.lab_report.specs.Requests.{before_place, in_order, of_place, place_of_actor, request_of}
-use Rattle.lab_lines.specs.Rows.{request_of_row}
-use Rattle.lab_run.specs.Phases.{card_row, card_rows, is_client, is_reader, ops_by}
 
 -- an actor is asked for something in a phase
 abbrev pub asks : ℕ → Actor → Op → Request

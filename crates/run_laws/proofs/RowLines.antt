@@ -1,47 +1,25 @@
 -- Each row of a report that is answered late is that of a line of the run.
-use Rattle.std.proofs.Common.{◌≡◌, ℕ, ◌+◌, refl, sym, ◌∙◌, ap, subst, arith, List, [], ◌∷◌, ◌++◌, Option, Some, None}
-use Rattle.std.proofs.lemmas.List.{append-nil, append_assoc}
-use Rattle.std.proofs.lemmas.List.Elements.{All-from_recursion}
-use Rattle.std.specs.List.{AllByRecursion}
-use Rattle.std.specs.Prelude.{true, suc, IfErr, IfSome, slice_index_or, Result, Ok, Err}
-use Rattle.snd_base.specs.declared.errors.PcmError.{PcmError}
-use Rattle.snd_base.specs.declared.errors.PcmError.TheVariants as error
-use Rattle.snd_base.specs.declared.errors.XrunWhy.TheVariants as why
-use Rattle.wav_io.specs.Sound.{Sound}
-use Rattle.dmix_client.specs.declared.stream.PlaybackStream.{PlaybackStream}
-use Rattle.dsnoop_client.specs.declared.stream.CaptureStream as reading
-use Rattle.lab_lines.specs.declared.line.Actor.TheVariants as actor
-use Rattle.lab_lines.specs.declared.line.Item.{Item}
-use Rattle.lab_lines.specs.declared.line.Item.TheVariants as item
-use Rattle.lab_lines.specs.declared.line.Line.{Line}
-use Rattle.lab_lines.specs.declared.line.Op.{Op}
-use Rattle.lab_lines.specs.declared.line.Op.TheVariants as op
-use Rattle.lab_lines.specs.Script.{is_of_card, played_by}
-use Rattle.lab_lines.specs.declared.row.Answer.{Answer}
-use Rattle.lab_lines.specs.declared.row.Answer.TheVariants.{Failed}
-use Rattle.lab_lines.specs.declared.row.Row.{Row}
-use Rattle.lab_run.specs.Claims.{claim_refusal}
-use Rattle.lab_run.specs.Client.{Client, row_by, segments_of}
-use Rattle.lab_run.specs.Items.{ItemMay, ItemsMay, client_kinds, held_of, no_sound, phase_end, reader_kinds, rules_of}
-use Rattle.lab_run.specs.LabRun.{LabRun, Outcome, report_of}
-use Rattle.run_laws.specs.LateRows.{is_rewind}
-use Rattle.lab_run.specs.Lines.{EachMay, Kind, LineMay, LinesMay}
-use Rattle.lab_run.specs.Phases.{card_row, card_rows, is_client, is_reader, ops_by}
-use Rattle.lab_run.specs.Places.{Lobby, after_attach}
-use Rattle.lab_run.specs.Reader.{Reader, reader_kind}
-use Rattle.lab_run.specs.Reader as readers
-use Rattle.lab_run.specs.Rules.{AtPort, Rules}
-use Rattle.lab_run.specs.Stage.{Session, Setup, Stage, attached_client, claimed_client, client_at, close_client, close_reader, first_stage, no_client, open_client, open_client_with, open_reader, open_reader_with, reader_at}
-use Rattle.lab_run.proofs.RowsGrow.{items-more}
-use Rattle.run_laws.specs.Late.{IsLate, IsLineOf, ListsSegments, IsRowOfLine, LateLinesMiss, LateRowsMiss, RowMisses, RowNamesLast, SaysWhereLate}
+use Rattle.run_laws.specs.Prelude.{ap, arith, List, None, Option, refl, Some, subst, sym, ℕ, [], ◌++◌, ◌+◌, ◌∙◌, ◌∷◌, ◌≡◌, append-nil, append_assoc}
+use Rattle.run_laws.specs.Prelude.{All-from_recursion, AllByRecursion, Err, IfErr, IfSome, Ok, Result, slice_index_or, suc, true, PcmError, Segment}
+use Rattle.run_laws.specs.Prelude.{PlaybackStream, Sound, Item, Line, Op, Report, Answer, Failed, Row, is_of_card, played_by, claim_refusal, Client, row_by}
+use Rattle.run_laws.specs.Prelude.{segments_of, client_kinds, held_of, ItemMay, ItemsMay, no_sound, phase_end, reader_kinds, rules_of, LabRun, Outcome}
+use Rattle.run_laws.specs.Prelude.{report_of, EachMay, Kind, LineMay, LinesMay, segments_by, card_row, card_rows, is_client, is_reader, ops_by, after_attach}
+use Rattle.run_laws.specs.Prelude.{Lobby, Reader, reader_kind, AtPort, Rules, attached_client, claimed_client, client_at, close_client, close_reader}
+use Rattle.run_laws.specs.Prelude.{first_stage, no_client, open_client, open_client_with, open_reader, open_reader_with, reader_at, Session, Setup, Stage}
+use Rattle.run_laws.specs.Prelude.{items-more, IsLate, IsLineOf, IsRowOfLine, LateLinesMiss, LateRowsMiss, ListsSegments, RowMisses, RowNamesLast}
+use Rattle.run_laws.specs.Prelude.{SaysWhereLate, is_rewind}
 use Rattle.run_laws.proofs.Borders.{IsBusy, attached-busy, claim-busy}
 use Rattle.run_laws.proofs.Listed.{OverAt, late-over, listed-at, over-held}
+use Rattle.run_laws.proofs.Lists.{each-append}
 use Rattle.run_laws.proofs.Sealed.{IsStart, Over, over-lines}
 use Rattle.run_laws.proofs.Stages.{items-held, reaped-held}
-use Rattle.snd_base.specs.declared.places.Segment.{Segment}
-use Rattle.lab_lines.specs.declared.report.Report.{Report}
-use Rattle.lab_run.specs.OwnRows.{segments_by}
-use Rattle.run_laws.proofs.Lists.{each-append}
+use Rattle.snd_base.specs.declared.errors.PcmError.TheVariants as error
+use Rattle.snd_base.specs.declared.errors.XrunWhy.TheVariants as why
+use Rattle.dsnoop_client.specs.declared.stream.CaptureStream as reading
+use Rattle.lab_lines.specs.declared.line.Actor.TheVariants as actor
+use Rattle.lab_lines.specs.declared.line.Item.TheVariants as item
+use Rattle.lab_lines.specs.declared.line.Op.TheVariants as op
+use Rattle.lab_run.specs.Reader as readers
 
 -- one line more, and one item more
 LinesMay-more : {S : Type 0} (kind : Kind S) (rules : Rules) (x before between : AtPort × S) (early : List Op) (asked : Op) (answer : Answer) (rows : List Row)

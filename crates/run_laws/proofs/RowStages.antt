@@ -1,42 +1,20 @@
 -- Each stage of a run of a script has the rows of the lines that are done, in the order of a report, and each has a text.
-use Rattle.std.proofs.Common.{◌≡◌, ℕ, ◌+◌, ◌<◌, ◌≤◌, refl, sym, ◌∙◌, ap, subst, arith, List, [], ◌∷◌, ◌++◌, length, map, append_assoc, Option}
-use Rattle.std.proofs.lemmas.List.{append-nil, length-map, map-append}
-use Rattle.std.proofs.lemmas.List.Elements.{All-append, All-cons, All-head, All-map, All-nil, All-tail}
-use Rattle.std.specs.Prelude.{All, Bool, true, false, slice_index_or, suc}
-use Rattle.snd_base.specs.declared.geometry.Geometry.{Geometry}
-use Rattle.wav_io.specs.Sound.{Sound}
-use Rattle.lab_lines.specs.declared.line.Actor.TheVariants as actor
-use Rattle.lab_lines.specs.declared.line.Item.{Item}
-use Rattle.lab_lines.specs.declared.line.Item.TheVariants as item
-use Rattle.lab_lines.specs.declared.line.Line.{Line}
-use Rattle.lab_lines.specs.declared.line.Op.{Op}
-use Rattle.lab_lines.specs.declared.line.Op.TheVariants as op
-use Rattle.lab_lines.specs.declared.script.CardLine.{CardLine}
-use Rattle.lab_lines.specs.declared.script.ClientLine.{ClientLine}
-use Rattle.lab_lines.specs.declared.script.ReaderLine.{ReaderLine}
-use Rattle.lab_lines.specs.declared.script.Script.{Script}
-use Rattle.lab_lines.specs.Limits.{IsActor, IsItem, IsPhase}
-use Rattle.lab_lines.specs.Script.{is_of_card, phases_of, played_by}
-use Rattle.lab_lines.specs.declared.request.Request.{Request}
-use Rattle.lab_lines.specs.declared.row.Row.{Row}
-use Rattle.lab_report.specs.Requests.{item_requests, of_place, request_of, requests_from}
-use Rattle.lab_lines.specs.Rows.{request_of_row}
-use Rattle.lab_report.specs.Text.{IsRowOf, IsRunOf, IsTailOf}
-use Rattle.lab_run.specs.Client.{Client, segments_of}
-use Rattle.lab_run.specs.Items.{ItemMay, ItemsMay, PhaseMay, client_kinds, is_reader_stopped, is_stopped, no_sound, reader_kinds, reaped_client, reaped_client_if, reaped_reader, reaped_reader_if, rules_of}
-use Rattle.lab_run.specs.LabRun.{with_numbers, report_of, runs_of}
-use Rattle.lab_run.specs.Openings.{AreClientOpenings, AreReaderOpenings, IsSessionOf}
-use Rattle.lab_run.specs.Phases.{card_row, card_rows, is_client, is_reader, ops_by}
-use Rattle.lab_run.specs.Reader.{Reader}
-use Rattle.lab_run.specs.Rules.{AtPort}
-use Rattle.lab_run.specs.ScriptWords.{IsReached}
-use Rattle.lab_run.specs.Stage.{Session, Setup, Stage, first_stage, no_client, no_reader}
-use Rattle.run_laws.specs.Reports.{StagesAreReported}
+use Rattle.run_laws.specs.Prelude.{ap, arith, length, List, Option, refl, subst, sym, ℕ, [], ◌++◌, ◌+◌, ◌<◌, ◌∙◌, ◌∷◌, ◌≡◌, ◌≤◌, append-nil, append_assoc}
+use Rattle.run_laws.specs.Prelude.{length-map, map-append, All-append, All-cons, All-head, All-map, All-nil, All-tail, All, Bool, false, map, slice_index_or}
+use Rattle.run_laws.specs.Prelude.{suc, true, Geometry, Sound, Item, Line, Op, Request, Row, CardLine, ClientLine, ReaderLine, Script, IsActor, IsItem, IsPhase}
+use Rattle.run_laws.specs.Prelude.{request_of_row, is_of_card, phases_of, played_by, item_requests, of_place, request_of, requests_from, IsRowOf, IsRunOf}
+use Rattle.run_laws.specs.Prelude.{IsTailOf, Client, segments_of, client_kinds, is_reader_stopped, is_stopped, ItemMay, ItemsMay, no_sound, PhaseMay}
+use Rattle.run_laws.specs.Prelude.{reader_kinds, reaped_client, reaped_client_if, reaped_reader, reaped_reader_if, rules_of, report_of, runs_of, with_numbers}
+use Rattle.run_laws.specs.Prelude.{AreClientOpenings, AreReaderOpenings, IsSessionOf, card_row, card_rows, is_client, is_reader, ops_by, Reader, AtPort}
+use Rattle.run_laws.specs.Prelude.{IsReached, first_stage, no_client, no_reader, Session, Setup, Stage, StagesAreReported}
 use Rattle.run_laws.proofs.Borders.{AddsRow, IsClientReportable, IsReaderReportable, CanBeReported, close-adds, open-adds}
 use Rattle.run_laws.proofs.ClientCalls.{IsReportable}
 use Rattle.run_laws.proofs.Lines.{AreReported, client-reports, each-rows, reader-reports}
-use Rattle.run_laws.proofs.ReaderCalls as reader_calls
 use Rattle.run_laws.proofs.Requests.{asks, card_rows-requests, client_ops-requests, from_place, in_order-parts, reader_ops-requests}
+use Rattle.lab_lines.specs.declared.line.Actor.TheVariants as actor
+use Rattle.lab_lines.specs.declared.line.Item.TheVariants as item
+use Rattle.lab_lines.specs.declared.line.Op.TheVariants as op
+use Rattle.run_laws.proofs.ReaderCalls as reader_calls
 
 -- ---- the beginning
 

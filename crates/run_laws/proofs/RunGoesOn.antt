@@ -1,29 +1,15 @@
 -- Each stage that a run reaches is one from which it can go on.
-use Rattle.std.proofs.Common.{◌≡◌, ℕ, ◌≤◌, ◌+◌, refl, sym, arith, inl, inr, Option, Some, None, List, [], ◌∷◌, ◌++◌}
-use Rattle.std.specs.Prelude.{Bool, true, false, Contains, ⊤}
-use Rattle.mix_core.specs.declared.port.Ended.{Ended}
+use Rattle.run_laws.specs.Prelude.{arith, inl, inr, List, None, Option, refl, Some, sym, ℕ, [], ◌++◌, ◌+◌, ◌∷◌, ◌≡◌, ◌≤◌, Bool, Contains, false, true, ⊤, Ended}
+use Rattle.run_laws.specs.Prelude.{Entry, Position, Got, Course, ends, gets, lays, loads, Item, Line, Op, Row, client_kinds, items_text, ItemsMay, PhaseMay}
+use Rattle.run_laws.specs.Prelude.{reader_kinds, rules_of, AreWithin, CanGoOn, EachMay, Kind, LinesMay, is_client, is_reader, ops_by, played_in, AtPort}
+use Rattle.run_laws.specs.Prelude.{lets_pass, May, MayGet, MayLay, MayLoad, Rules, with_asks, with_stop, with_stop_by, first_stage, Session, Stage}
+use Rattle.run_laws.specs.Prelude.{client-IsKind, IsKind, reader-IsKind, items-more}
 use Rattle.mix_core.specs.declared.port.Ended.TheVariants.{Whole, Late, Stopped}
-use Rattle.mix_core.specs.declared.port.Entry.{Entry}
-use Rattle.mix_core.specs.declared.port.Position.{Position}
-use Rattle.snoop_core.specs.declared.port.Got.{Got}
-use Rattle.snoop_core.specs.declared.port.Got.TheVariants as got
-use Rattle.course.specs.Course.{Course, ends, gets, lays, loads}
-use Rattle.lab_lines.specs.declared.line.Item.{Item}
-use Rattle.lab_lines.specs.declared.line.Item.TheVariants as item
-use Rattle.lab_lines.specs.declared.line.Line.{Line}
-use Rattle.lab_lines.specs.declared.line.Op.{Op}
-use Rattle.lab_lines.specs.declared.row.Row.{Row}
-use Rattle.lab_run.specs.Items.{ItemsMay, PhaseMay, client_kinds, items_text, reader_kinds, rules_of}
-use Rattle.lab_run.specs.LabRun.{AreWithin, CanGoOn}
-use Rattle.lab_run.specs.Lines.{EachMay, Kind, LinesMay}
-use Rattle.lab_run.specs.Phases.{is_client, is_reader, ops_by, played_in}
-use Rattle.lab_run.specs.Rules.{AtPort, May, MayGet, MayLay, MayLoad, Rules, lets_pass, with_asks, with_stop, with_stop_by}
-use Rattle.lab_run.specs.Stage.{Session, Stage, first_stage}
-use Rattle.lab_run.proofs.ActorKinds.{IsKind, client-IsKind, reader-IsKind}
 use Rattle.lab_run.proofs.EachLaws.{AreBehind}
-use Rattle.lab_run.proofs.RowsGrow.{items-more}
 use Rattle.lab_run.proofs.RunExists.{IsBehind, Within, behind-more, close-behind, first-behind, items-exist, open-behind, reaped-clients, reaped-readers, within}
 use Rattle.run_laws.proofs.Published.{published-within}
+use Rattle.snoop_core.specs.declared.port.Got.TheVariants as got
+use Rattle.lab_lines.specs.declared.line.Item.TheVariants as item
 
 -- no position that is published in a phase is past the last
 abbrev IsBounded : Rules → Type 0

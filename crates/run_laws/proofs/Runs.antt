@@ -1,10 +1,7 @@
 -- What a run of a script leaves is of that script.
-use Rattle.std.proofs.Common.{sym, subst, []}
-use Rattle.std.proofs.lemmas.List.{append-nil}
-use Rattle.lab_run.specs.ScriptWords.{IsReached}
-use Rattle.run_laws.specs.Reports.{IsOutcomeOf, OutcomesAreOfScripts}
-use Rattle.run_laws.proofs.SampleSizes.{stages-have_sizes}
+use Rattle.run_laws.specs.Prelude.{subst, sym, [], append-nil, IsReached, IsOutcomeOf, OutcomesAreOfScripts}
 use Rattle.run_laws.proofs.RowStages.{stages-are_reported}
+use Rattle.run_laws.proofs.SampleSizes.{stages-have_sizes}
 
 pub outcomes-are_of_scripts : OutcomesAreOfScripts
 outcomes-are_of_scripts script wavs session capture client_stops reader_stops outcome script_is session_is run =

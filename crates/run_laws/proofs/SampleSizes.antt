@@ -1,35 +1,20 @@
 -- The samples that a run leaves are whole frames, no more than a script may play.
-use Rattle.std.proofs.Common.{◌≡◌, ℕ, ◌+◌, ◌*◌, ◌%◌, ◌<◌, ◌≤◌, ◌==◌, mul-le-mul, refl, sym, ◌∙◌, ap, subst, arith, List, [], ◌∷◌, length, take, zero, suc, Option, Some, None}
+use Rattle.run_laws.specs.Prelude.{ap, arith, length, List, mul-le-mul, None, Option, refl, Some, subst, sym, ℕ, [], ◌*◌, ◌+◌, ◌<◌, ◌∙◌, ◌∷◌, ◌≡◌, ◌≤◌}
+use Rattle.run_laws.specs.Prelude.{nat_tests, length-map-range_with_len, length-range_with_len, sum_by-cons, get_or_from_slice_get, slice_get_within, Bool, Err}
+use Rattle.run_laws.specs.Prelude.{false, if◌then◌else◌, nat_lt, Ok, slice_get, slice_index_or, suc, take, true, unwrap_or, zero, ℤ, ◌%◌, ◌==◌, identity, Sound}
+use Rattle.run_laws.specs.Prelude.{Item, Line, CardLine, ReaderLine, Script, IsBoundWhere, IsCardLine, IsReaderLine, first_frame, frames_played, phases_of}
+use Rattle.run_laws.specs.Prelude.{all_segments, bindings_of, captured_sample, entries_of, mixed_at, outcome_of, report_of, AreReaderOpenings, IsReaderOpening}
+use Rattle.run_laws.specs.Prelude.{read_by, Reader, IsReached, no_reader, reader_at, Session, Setup, Stage, recorded_from-at, recorded_from-size}
 use Rattle.std.proofs.Math.Nat.{mul-mod_left}
-use Rattle.std.proofs.lemmas.Bool.Decides.{nat_tests}
-use Rattle.std.proofs.lemmas.List.FromFn.{length-map-range_with_len, length-range_with_len}
-use Rattle.std.proofs.lemmas.List.Sums.{sum_by-cons}
-use Rattle.std.proofs.lemmas.Option.{get_or_from_slice_get, slice_get_within}
-use Rattle.std.specs.Prelude.{Bool, true, false, if◌then◌else◌, ℤ, nat_lt, slice_get, slice_index_or, unwrap_or, Ok, Err}
 use Rattle.snd_base.specs.declared.errors.Why.TheVariants.{BindingsEmpty, BindingsTooMany}
 use Rattle.bindings.specs.Answers.{answer_of, entry_defects, or_first}
-use Rattle.bindings.specs.Bound.{identity}
-use Rattle.wav_io.specs.Sound.{Sound}
-use Rattle.lab_lines.specs.declared.line.Item.{Item}
-use Rattle.lab_lines.specs.declared.line.Line.{Line}
-use Rattle.lab_lines.specs.declared.script.CardLine.{CardLine}
-use Rattle.lab_lines.specs.declared.script.ReaderLine.{ReaderLine}
-use Rattle.lab_lines.specs.declared.script.Script.{Script}
-use Rattle.lab_lines.specs.Limits.{IsBoundWhere, IsCardLine, IsReaderLine}
-use Rattle.lab_lines.specs.Script.{first_frame, frames_played, phases_of}
-use Rattle.lab_lines.specs.Script as scripts
-use Rattle.lab_run.specs.LabRun.{all_segments, bindings_of, captured_sample, entries_of, mixed_at, outcome_of, report_of}
-use Rattle.lab_run.specs.Openings.{AreReaderOpenings, IsReaderOpening, read_by}
-use Rattle.lab_run.specs.Reader.{Reader}
-use Rattle.lab_run.specs.ScriptWords.{IsReached}
-use Rattle.lab_run.specs.Stage.{Session, Setup, Stage, no_reader, reader_at}
 use Rattle.lab_run.proofs.ScriptWords.{stages-of_scripts}
-use Rattle.run_laws.specs.Growth.{recorded_from-at, recorded_from-size}
 use Rattle.run_laws.specs.Sizes.{AreWholeFrames, IsPlayed, IsRecorded, StagesHaveSizes}
 use Rattle.run_laws.proofs.Captured.{reader_at-within, run-within}
 use Rattle.run_laws.proofs.ReaderFrames.{frames-few}
 use Rattle.run_laws.proofs.Recorded.{samples-count}
 use Rattle.run_laws.proofs.RowStages.{reached-reportable}
+use Rattle.lab_lines.specs.Script as scripts
 
 -- ---- the frames that were played
 

@@ -1,36 +1,15 @@
 -- A stretch that ended by an xrun stays as it is until the client is prepared or closed: the report lists its segment.
-use Rattle.std.proofs.Common.{◌≡◌, ℕ, ◌⊎◌, inl, inr, refl, sym, ◌∙◌, ap, subst, List, [], ◌∷◌, ◌++◌, Option, Some, None}
-use Rattle.std.proofs.lemmas.Bool.{false≢true}
-use Rattle.std.proofs.lemmas.List.{append-nil, append_assoc}
-use Rattle.std.specs.Prelude.{Bool, true, false, ◌&&◌, nat_eq, if◌then◌else◌, Result, Ok, Err}
-use Rattle.snd_base.specs.declared.errors.PcmError.{PcmError}
-use Rattle.snd_base.specs.declared.errors.PcmError.TheVariants as error
-use Rattle.snd_base.specs.declared.places.Segment.{Segment}
-use Rattle.mix_core.specs.declared.marks.Marks.{Marks}
-use Rattle.pcm_states.specs.declared.calls.Call.{Call}
-use Rattle.pcm_states.specs.declared.calls.Call.TheVariants as call
-use Rattle.pcm_states.specs.declared.states.State.{State}
-use Rattle.pcm_states.specs.declared.states.State.TheVariants.{Setup, Xrun}
-use Rattle.pcm_states.specs.Table.{next_of}
-use Rattle.pcm_stream.specs.declared.direction.Direction.TheVariants.{Playback}
-use Rattle.pcm_stream.specs.Status.{is_moving, nothing_found, refusal_in, refusal_of}
-use Rattle.course.specs.Course.{◌>>=◌, Course, ends}
-use Rattle.course.specs.Gives.{Gives, Gives-any, Gives-map}
-use Rattle.wav_io.specs.Sound.{Sound}
-use Rattle.dmix_client.specs.declared.stream.PlaybackStream.{PlaybackStream}
-use Rattle.dmix_client.specs.declared.stream.Stretch.{Stretch}
-use Rattle.dmix_client.specs.Calls.{Answered, after_drop, is_paused, is_prepared, after_prepare}
-use Rattle.dmix_client.specs.Course.{if_admitted, admitted_by, drain_course}
-use Rattle.lab_lines.specs.declared.line.Op.{Op}
-use Rattle.lab_lines.specs.declared.line.Op.TheVariants as op
-use Rattle.lab_lines.specs.declared.row.Answer.{Answer}
-use Rattle.lab_lines.specs.declared.row.Row.{Row}
-use Rattle.lab_run.specs.Client.{Client, after_call, call_answer, call_of, client_kind, count_answer, done_answer, ended_by, present_of, segments_of, stretch_of}
-use Rattle.lab_run.specs.Lines.{LineMay, LinesMay}
-use Rattle.lab_run.specs.Rules.{AtPort, Rules}
-use Rattle.lab_run.proofs.EachLine.{client-line}
-use Rattle.lab_run.proofs.CallParts.{some-none}
+use Rattle.run_laws.specs.Prelude.{ap, inl, inr, List, None, Option, refl, Some, subst, sym, ℕ, [], ◌++◌, ◌∙◌, ◌∷◌, ◌≡◌, ◌⊎◌, false≢true, append-nil}
+use Rattle.run_laws.specs.Prelude.{append_assoc, Bool, Err, false, if◌then◌else◌, nat_eq, Ok, Result, true, ◌&&◌, PcmError, Segment, Call, State, Xrun, next_of}
+use Rattle.run_laws.specs.Prelude.{Playback, is_moving, nothing_found, refusal_in, refusal_of, Marks, Course, ends, ◌>>=◌, Gives, Gives-any, Gives-map}
+use Rattle.run_laws.specs.Prelude.{PlaybackStream, Stretch, after_drop, after_prepare, Answered, is_paused, is_prepared, admitted_by, drain_course, if_admitted}
+use Rattle.run_laws.specs.Prelude.{Sound, Op, Answer, Row, after_call, call_answer, call_of, Client, client_kind, count_answer, done_answer, ended_by}
+use Rattle.run_laws.specs.Prelude.{present_of, segments_of, stretch_of, LineMay, LinesMay, AtPort, Rules, some-none, client-line}
+use Rattle.pcm_states.specs.declared.states.State.TheVariants.{Setup}
 use Rattle.run_laws.proofs.OnwardLines.{InOpen, unpaused-ends}
+use Rattle.snd_base.specs.declared.errors.PcmError.TheVariants as error
+use Rattle.pcm_states.specs.declared.calls.Call.TheVariants as call
+use Rattle.lab_lines.specs.declared.line.Op.TheVariants as op
 
 -- a stream in these states places nothing and takes nothing back until it is prepared
 abbrev pub is_sealed : State → Bool

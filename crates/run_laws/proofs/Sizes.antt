@@ -1,9 +1,5 @@
 -- A run has as many clients and readers as its session.
-use Rattle.std.proofs.Common.{◌≡◌, ◌∙◌, List, length}
-use Rattle.std.proofs.lemmas.List.{length-map, length-set}
-use Rattle.lab_lines.specs.declared.line.Item.{Item}
-use Rattle.lab_run.specs.Items.{ItemsMay}
-use Rattle.lab_run.specs.Stage.{Session, Stage, first_stage, no_client, no_reader}
+use Rattle.run_laws.specs.Prelude.{length, List, ◌∙◌, ◌≡◌, length-map, length-set, Item, ItemsMay, first_stage, no_client, no_reader, Session, Stage}
 use Rattle.run_laws.proofs.HeldReaders.{IsLastingOfReaders, readers-held}
 use Rattle.run_laws.proofs.Stages.{IsLasting, items-held}
 

@@ -1,30 +1,16 @@
 -- The frames of a reader over a whole body: in each of its stretches they are one slice.
-use Rattle.std.proofs.Common.{◌≡◌, ℕ, ◌+◌, ◌<◌, refl, sym, ◌∙◌, ap, subst, arith, Option, Some, None, List, [], ◌∷◌, ◌++◌, length}
-use Rattle.std.proofs.lemmas.List.{append-nil, get_or-set_same}
-use Rattle.std.specs.List.{flat_map, range_with_len}
-use Rattle.std.specs.Prelude.{Bool, true, false, zero, suc, nat_eq, map, slice_index_or}
-use Rattle.snd_base.specs.declared.geometry.Geometry.{Geometry}
-use Rattle.wav_io.specs.Sound.{Sound}
-use Rattle.dsnoop_client.specs.declared.stream.CaptureStream.{CaptureStream}
-use Rattle.lab_lines.specs.declared.line.Actor.{Actor}
-use Rattle.lab_lines.specs.declared.line.Item.{Item}
-use Rattle.lab_lines.specs.declared.line.Item.TheVariants as item
-use Rattle.lab_lines.specs.declared.line.Op.{Op}
-use Rattle.lab_lines.specs.Script.{is_of_card}
-use Rattle.lab_lines.specs.declared.row.Row.{Row}
-use Rattle.lab_run.specs.Items.{ItemMay, ItemsMay, client_kinds, is_reader_stopped, reader_kinds, reaped_reader, reaped_reader_if, rules_of}
-use Rattle.lab_run.specs.LabRun.{Outcome, bindings_of, captured_sample, with_numbers, recorded_from, runs_of}
-use Rattle.lab_run.specs.OwnRows.{Alone, rows_by}
-use Rattle.lab_run.specs.Phases.{card_rows, is_client, is_reader, ops_by}
-use Rattle.lab_run.specs.Reader.{Reader}
-use Rattle.lab_run.specs.Rules.{AtPort, Rules}
-use Rattle.lab_run.specs.Stage.{Session, Setup, Stage, after_close, after_open, close_reader, first_stage, no_reader, open_reader, open_reader_with, reader_at}
-use Rattle.lab_run.specs.Stretches.{AreSlices, ReadsInSlices, ReadersReadInSlices, ends_by_row, goes_on_after, got_by}
-use Rattle.lab_run.proofs.BorderLaws.{close-by, open-by}
+use Rattle.run_laws.specs.Prelude.{ap, arith, length, List, None, Option, refl, Some, subst, sym, ℕ, [], ◌++◌, ◌+◌, ◌<◌, ◌∙◌, ◌∷◌, ◌≡◌, append-nil}
+use Rattle.run_laws.specs.Prelude.{get_or-set_same, flat_map, range_with_len, Bool, false, map, nat_eq, slice_index_or, suc, true, zero, Geometry}
+use Rattle.run_laws.specs.Prelude.{CaptureStream, Sound, Actor, Item, Op, Row, is_of_card, client_kinds, is_reader_stopped, ItemMay, ItemsMay, reader_kinds}
+use Rattle.run_laws.specs.Prelude.{reaped_reader, reaped_reader_if, rules_of, bindings_of, captured_sample, Outcome, recorded_from, runs_of, with_numbers}
+use Rattle.run_laws.specs.Prelude.{Alone, rows_by, card_rows, is_client, is_reader, ops_by, Reader, AtPort, Rules, after_close, after_open, close_reader}
+use Rattle.run_laws.specs.Prelude.{first_stage, no_reader, open_reader, open_reader_with, reader_at, Session, Setup, Stage, AreSlices, ends_by_row}
+use Rattle.run_laws.specs.Prelude.{goes_on_after, got_by, ReadersReadInSlices, ReadsInSlices, close-by, open-by}
 use Rattle.run_laws.proofs.OwnActors.{LeavesOthers, both, view, view_of}
 use Rattle.run_laws.proofs.OwnLines.{EachAt, EachBy, MayOf, cards-other, constant-at, each-at, each-other, each-size, map-at, map-size, may-each, may-of, numbered-at, own-row, phase-rows}
 use Rattle.run_laws.proofs.OwnReaders.{client_row-other, is-own, own-number, reader-border, reader_own, reader_with, row-numbered, runs-members}
 use Rattle.run_laws.proofs.SliceLines.{AreSlices-append, first-of, IsGoing, lines-get, LinesGet}
+use Rattle.lab_lines.specs.declared.line.Item.TheVariants as item
 
 -- ---- a reader between two items
 

@@ -1,41 +1,22 @@
 -- The lines of a reader: each gets one slice of frames, and in a stretch each slice begins where the one before it ended.
-use Rattle.std.proofs.Common.{◌≡◌, ℕ, ◌+◌, ◌-◌, ◌≤◌, ◌⊎◌, refl, sym, ◌∙◌, ap, subst, arith, inl, inr, Option, Some, None, List, [], ◌∷◌, ◌++◌}
-use Rattle.std.proofs.lemmas.List.{append_assoc, append-nil}
-use Rattle.std.specs.Prelude.{Bool, true, false, zero, suc, nat_eq, nat_le, nat_lt, ◌&&◌, if◌then◌else◌, Result, Ok, Err, ⊤, ◌++◌}
-use Rattle.std.specs.List.{range_with_len}
-use Rattle.snd_base.specs.declared.errors.PcmError.{PcmError}
-use Rattle.snd_base.specs.declared.errors.PcmError.TheVariants as error
-use Rattle.snd_base.specs.declared.errors.XrunWhy.{XrunWhy}
-use Rattle.snd_base.specs.declared.errors.XrunWhy.TheVariants as why
-use Rattle.mix_core.specs.declared.port.Position.{Position}
-use Rattle.pcm_states.specs.declared.calls.Call.{Call}
-use Rattle.pcm_states.specs.declared.calls.Call.TheVariants as call
-use Rattle.pcm_states.specs.declared.states.State.{State}
-use Rattle.pcm_states.specs.declared.states.State.TheVariants.{Disconnected, Running}
-use Rattle.pcm_states.specs.declared.states.State.TheVariants as state
-use Rattle.pcm_states.specs.Table.{next_of}
-use Rattle.pcm_stream.specs.declared.direction.Direction.TheVariants.{Capture}
-use Rattle.pcm_stream.specs.Status.{nothing_found, refusal_in}
-use Rattle.snoop_core.specs.declared.port.Got.{Got}
-use Rattle.snoop_core.specs.declared.port.Got.TheVariants as got
-use Rattle.course.specs.Course.{◌>>=◌, Course, ends}
-use Rattle.course.specs.Gives.{Gives, Gives-any, Gives-map, Gives-then}
-use Rattle.dsnoop_client.specs.declared.stream.CaptureStream.{CaptureStream}
-use Rattle.dsnoop_client.specs.Calls.{Answered, facts_with, over_of, read_after, read_to, seen_at, with_outcome, after_start, started_at, after_sync, taken_of, waits, with_avail}
+use Rattle.run_laws.specs.Prelude.{ap, arith, inl, inr, List, None, Option, refl, Some, subst, sym, ℕ, [], ◌++◌, ◌+◌, ◌-◌, ◌∙◌, ◌∷◌, ◌≡◌, ◌≤◌, ◌⊎◌, append-nil}
+use Rattle.run_laws.specs.Prelude.{append_assoc, range_with_len, Bool, Err, false, if◌then◌else◌, nat_eq, nat_le, nat_lt, Ok, Result, suc, true, zero, ⊤, ◌&&◌}
+use Rattle.run_laws.specs.Prelude.{PcmError, XrunWhy, Call, State, Disconnected, Running, next_of, Capture, nothing_found, refusal_in, Position, Got, Course}
+use Rattle.run_laws.specs.Prelude.{ends, ◌>>=◌, Gives, Gives-any, Gives-map, Gives-then, CaptureStream, facts_with, read_after, read_to, started_at, waits}
+use Rattle.run_laws.specs.Prelude.{with_avail, counts, gets_frames, read_course, reads_first, reads_on, transfer_on, transfers, Op, Answer, Count, Done, Failed}
+use Rattle.run_laws.specs.Prelude.{Row, count_answer, done_answer, reported_error, LineMay, LinesMay, frames_by, Reader, reader_kind, AtPort, Rules, AreSlices}
+use Rattle.run_laws.specs.Prelude.{ends_by_row, goes_on_after, got_by, IsFirstOf, open_reader-line, reader-line}
+use Rattle.dsnoop_client.specs.Calls.{Answered, over_of, seen_at, with_outcome, after_start, after_sync, taken_of}
+use Rattle.dsnoop_client.specs.Course.{if_admitted, admitted_by, starts, syncs}
 use Rattle.dsnoop_client.specs.View.{avail_of, is_running}
-use Rattle.dsnoop_client.specs.Course.{if_admitted, admitted_by, counts, gets_frames, read_course, reads_first, reads_on, starts, syncs, transfer_on, transfers}
-use Rattle.lab_lines.specs.declared.line.Op.{Op}
-use Rattle.lab_lines.specs.declared.line.Op.TheVariants as op
-use Rattle.lab_lines.specs.declared.row.Answer.{Answer}
-use Rattle.lab_lines.specs.declared.row.Answer.TheVariants.{Done, Failed, Count}
-use Rattle.lab_lines.specs.declared.row.Row.{Row}
-use Rattle.lab_run.specs.Client.{count_answer, done_answer, reported_error}
-use Rattle.lab_run.specs.Lines.{LineMay, LinesMay}
-use Rattle.lab_run.specs.Reader.{Reader, after_call, call_answer, call_of, frames_by, reader_kind, row_by}
-use Rattle.lab_run.specs.Rules.{AtPort, Rules}
-use Rattle.lab_run.specs.Stretches.{AreSlices, IsFirstOf, ends_by_row, goes_on_after, got_by}
+use Rattle.lab_run.specs.Reader.{after_call, call_answer, call_of, row_by}
 use Rattle.run_laws.specs.Slices.{ends_by, ends_stretch, GetsSlice, LinesGetSlices, ReadersReadOn, ReadsOn}
-use Rattle.lab_run.proofs.EachLine.{reader-line, open_reader-line}
+use Rattle.snd_base.specs.declared.errors.PcmError.TheVariants as error
+use Rattle.snd_base.specs.declared.errors.XrunWhy.TheVariants as why
+use Rattle.pcm_states.specs.declared.calls.Call.TheVariants as call
+use Rattle.pcm_states.specs.declared.states.State.TheVariants as state
+use Rattle.snoop_core.specs.declared.port.Got.TheVariants as got
+use Rattle.lab_lines.specs.declared.line.Op.TheVariants as op
 
 -- a reader that wasn't stopped and runs, or whose card is gone
 abbrev IsOn : CaptureStream → Type 0

@@ -1,30 +1,12 @@
 -- In a card that is shared by channels the clients' segments have but one sample at a frame and channel: who has the channel next goes on past it.
-use Rattle.std.proofs.Common.{◌≡◌, ℕ, ◌+◌, ◌<◌, ◌≤◌, ◌⊎◌, inl, inr, refl, sym, ◌∙◌, ap, subst, arith, List, [], ◌∷◌, ◌++◌, Option, Some, None, length}
-use Rattle.std.proofs.lemmas.Bool.{eq-eqb, eqb-true, false≢true}
-use Rattle.std.proofs.lemmas.Bool.Decides.{nat_tests}
-use Rattle.std.proofs.lemmas.List.{append-nil}
-use Rattle.std.specs.List.{AllByRecursion}
-use Rattle.std.specs.Prelude.{ℤ, ⊤, IfSome, Bool, true, false, ◌&&◌, ◌-◌, nat_eq, max, if◌then◌else◌, is_some, slice_index_or, slice_set, Contains}
-use Rattle.snd_base.specs.declared.geometry.Geometry.{Geometry}
-use Rattle.snd_base.specs.declared.places.Segment.{Segment}
-use Rattle.snd_base.specs.Places.{first_frame, first_free}
-use Rattle.mix_core.specs.declared.marks.Marks.{Marks}
-use Rattle.mix_core.specs.Laid as laid
-use Rattle.mix_core.specs.Marks.{high_frame, is_before, last_before, start_marks, start_of}
-use Rattle.dmix_client.specs.declared.stream.PlaybackStream.{PlaybackStream}
-use Rattle.dmix_client.specs.Calls.{segment_of}
-use Rattle.dshare.specs.Owners.{AreFree, ClaimRow as Claim, claimed, has_channel, last_frames, owner_of, released}
-use Rattle.lab_lines.specs.declared.line.Op.{Op}
-use Rattle.lab_lines.specs.declared.row.Answer.{Answer}
-use Rattle.lab_lines.specs.declared.script.Share.TheVariants.{Dshare}
-use Rattle.lab_run.specs.Claims.{ClaimIsOwners, with_claim, with_release}
-use Rattle.lab_run.specs.Client.{Client, present_of, segments_of}
-use Rattle.lab_run.specs.Items.{no_sound}
-use Rattle.lab_run.specs.LabRun.{all_segments, bindings_of, entries_by, entries_of}
-use Rattle.lab_run.specs.Lines.{LineMay}
-use Rattle.lab_run.specs.Rules.{AtPort, Rules}
-use Rattle.lab_run.specs.Stage.{Session, Setup, Stage, ended_client, first_stage, no_client}
-use Rattle.run_laws.specs.Shares.{channels_of_client}
+use Rattle.run_laws.specs.Prelude.{ap, arith, inl, inr, length, List, None, Option, refl, Some, subst, sym, ℕ, [], ◌++◌, ◌+◌, ◌-◌, ◌<◌, ◌∙◌, ◌∷◌, ◌≡◌, ◌≤◌, ◌⊎◌}
+use Rattle.run_laws.specs.Prelude.{eq-eqb, eqb-true, false≢true, nat_tests, append-nil, AllByRecursion, Bool, Contains, false, IfSome, if◌then◌else◌, is_some}
+use Rattle.run_laws.specs.Prelude.{max, nat_eq, slice_index_or, slice_set, true, ℤ, ⊤, ◌&&◌, Geometry, Segment, first_free, AreFree, claimed, ClaimRow as Claim}
+use Rattle.run_laws.specs.Prelude.{has_channel, last_frames, owner_of, released, Marks, high_frame, is_before, last_before, start_marks, start_of}
+use Rattle.run_laws.specs.Prelude.{PlaybackStream, segment_of, Op, Answer, Dshare, ClaimIsOwners, with_claim, with_release, Client, present_of, segments_of}
+use Rattle.run_laws.specs.Prelude.{no_sound, all_segments, bindings_of, entries_by, entries_of, LineMay, AtPort, Rules, ended_client, first_stage, no_client}
+use Rattle.run_laws.specs.Prelude.{Session, Setup, Stage, channels_of_client}
+use Rattle.snd_base.specs.Places.{first_frame}
 use Rattle.run_laws.proofs.Apart.{Has, HasOneOwner, HoldsChannel, first-owner, free-at, granted-free, line-part, one-owner}
 use Rattle.run_laws.proofs.AtMostOne.{IsOne, Lands, all-once, bound_of, heard_by, count-more, count-one, count-unbound, heard_count, seg_end}
 use Rattle.run_laws.proofs.Bound.{IsBound, IsClientBound, clients-bound}
@@ -33,6 +15,7 @@ use Rattle.run_laws.proofs.Onward.{Channels, Onward, end_of, free_frame, high_en
 use Rattle.run_laws.proofs.OnwardCalls.{reached}
 use Rattle.run_laws.proofs.OnwardLines.{After, InOpen, ends-reached, line-after, waits-none}
 use Rattle.run_laws.proofs.Stages.{IsLasting, OfNumber, at, by-number, each-from, first-none, kind_at, client_opened, set-so}
+use Rattle.mix_core.specs.Laid as laid
 
 -- ---- claims
 

@@ -1,30 +1,16 @@
 -- What is so of a run's clients, claims and position in each of its stages; and what is kept of each client, with its setup or its number.
-use Rattle.std.proofs.Common.{◌≡◌, ℕ, ◌+◌, ◌-◌, ◌<◌, ◌≤◌, refl, sym, ◌∙◌, ap, subst, arith, List, [], ◌∷◌, ◌++◌, length, Option, Some, None}
-use Rattle.std.proofs.lemmas.Bool.{false≢true}
-use Rattle.std.proofs.lemmas.List.{append_assoc, get_or-append_right, length-append, set-append_right}
-use Rattle.std.specs.Prelude.{Bool, true, false, zero, suc, map, slice_index_or, slice_set, Contains, Result, Ok, Err, ⊤}
-use Rattle.snd_base.specs.declared.errors.PcmError.{PcmError}
-use Rattle.snd_base.specs.declared.geometry.Geometry.{Geometry}
-use Rattle.wav_io.specs.Sound.{Sound}
-use Rattle.dmix_client.specs.declared.stream.PlaybackStream.{PlaybackStream}
-use Rattle.dsnoop_client.specs.declared.stream.CaptureStream as reading
-use Rattle.dshare.specs.Owners.{ClaimRow as Claim}
-use Rattle.lab_lines.specs.declared.line.Actor.TheVariants as actor
-use Rattle.lab_lines.specs.declared.line.Item.{Item}
-use Rattle.lab_lines.specs.declared.line.Item.TheVariants as item
-use Rattle.lab_lines.specs.declared.line.Op.{Op}
-use Rattle.lab_lines.specs.declared.row.Answer.{Answer}
-use Rattle.lab_lines.specs.declared.row.Row.{Row}
-use Rattle.lab_lines.specs.Script.{first_frame}
-use Rattle.lab_run.specs.Claims.{claim_refusal, with_claim}
-use Rattle.lab_run.specs.Client.{Client, client_kind, segments_of}
-use Rattle.lab_run.specs.Items.{Held, ItemMay, ItemsMay, client_kinds, held_after, held_of, held_without, is_stopped, no_sound, reaped_client, reaped_client_if, reaped_one, rules_of}
-use Rattle.lab_run.specs.Lines.{EachMay, Kind, LineMay, LinesMay}
-use Rattle.lab_run.specs.Phases.{is_client, ops_by}
-use Rattle.lab_run.specs.Places.{Lobby, after_attach}
-use Rattle.lab_run.specs.Rules.{AtPort, Rules}
-use Rattle.lab_run.specs.Stage.{Session, Setup, Stage, attached_client, claimed_client, claims_without, client_at, close_client, close_reader, ended_client, first_stage, no_client, open_client, open_client_with, open_reader, open_reader_with, opened_client, reader_at, renewed_port}
+use Rattle.run_laws.specs.Prelude.{ap, arith, length, List, None, Option, refl, Some, subst, sym, ℕ, [], ◌++◌, ◌+◌, ◌-◌, ◌<◌, ◌∙◌, ◌∷◌, ◌≡◌, ◌≤◌, false≢true}
+use Rattle.run_laws.specs.Prelude.{append_assoc, get_or-append_right, length-append, set-append_right, Bool, Contains, Err, false, map, Ok, Result}
+use Rattle.run_laws.specs.Prelude.{slice_index_or, slice_set, suc, true, zero, ⊤, PcmError, Geometry, ClaimRow as Claim, PlaybackStream, Sound, Item, Op}
+use Rattle.run_laws.specs.Prelude.{Answer, Row, first_frame, claim_refusal, with_claim, Client, client_kind, segments_of, client_kinds, Held, held_after}
+use Rattle.run_laws.specs.Prelude.{held_of, held_without, is_stopped, ItemMay, ItemsMay, no_sound, reaped_client, reaped_client_if, reaped_one, rules_of}
+use Rattle.run_laws.specs.Prelude.{EachMay, Kind, LineMay, LinesMay, is_client, ops_by, after_attach, Lobby, AtPort, Rules, attached_client, claimed_client}
+use Rattle.run_laws.specs.Prelude.{claims_without, client_at, close_client, close_reader, ended_client, first_stage, no_client, open_client, open_client_with}
+use Rattle.run_laws.specs.Prelude.{open_reader, open_reader_with, opened_client, reader_at, renewed_port, Session, Setup, Stage}
 use Rattle.run_laws.proofs.Published.{published-past}
+use Rattle.dsnoop_client.specs.declared.stream.CaptureStream as reading
+use Rattle.lab_lines.specs.declared.line.Actor.TheVariants as actor
+use Rattle.lab_lines.specs.declared.line.Item.TheVariants as item
 
 -- ---- the clients of a run
 

@@ -1,23 +1,13 @@
 -- Whatever a call of a stream answers, a report can have its error and the stream's state.
-use Rattle.std.proofs.Common.{refl, subst, Option, Some, None}
-use Rattle.std.specs.Prelude.{Bool, true, false, if◌then◌else◌, Result, Ok, Err, IfSome, ⊤}
-use Rattle.snd_base.specs.declared.errors.PcmError.{PcmError}
-use Rattle.snd_base.specs.declared.errors.PcmError.TheVariants as error
-use Rattle.snd_base.specs.declared.errors.XrunWhy.{XrunWhy}
-use Rattle.snd_base.specs.declared.errors.XrunWhy.TheVariants as why
-use Rattle.pcm_states.specs.declared.calls.Call.{Call}
-use Rattle.pcm_states.specs.declared.calls.Call.TheVariants as call
-use Rattle.pcm_states.specs.declared.calls.Facts.{Facts}
+use Rattle.run_laws.specs.Prelude.{None, Option, refl, Some, subst, Bool, Err, false, IfSome, if◌then◌else◌, Ok, Result, true, ⊤, PcmError, XrunWhy, Call}
+use Rattle.run_laws.specs.Prelude.{Facts, State, call_row, Cell, next_of, stopped_by, to, Cases, next_of-holds, Status, is_refusal, nothing_found, refusal_in}
+use Rattle.run_laws.specs.Prelude.{refusal_of, HasErrorText, HasStateText, reported_error}
 use Rattle.pcm_states.specs.declared.calls.Outcome.{Outcome}
-use Rattle.pcm_states.specs.declared.states.State.{State}
-use Rattle.pcm_states.specs.declared.states.State.TheVariants as state
-use Rattle.pcm_states.specs.Table.{Cell, call_row, next_of, stopped_by, to}
-use Rattle.pcm_states.specs.TableLaws.{Cases, next_of-holds}
-use Rattle.pcm_stream.specs.Status.{is_refusal, nothing_found, refusal_in, refusal_of}
 use Rattle.pcm_stream.specs.declared.direction.Direction.{Direction}
-use Rattle.pcm_stream.specs.declared.status.Status.{Status}
-use Rattle.lab_report.specs.Text.{HasErrorText, HasStateText}
-use Rattle.lab_run.specs.Client.{reported_error}
+use Rattle.snd_base.specs.declared.errors.PcmError.TheVariants as error
+use Rattle.snd_base.specs.declared.errors.XrunWhy.TheVariants as why
+use Rattle.pcm_states.specs.declared.calls.Call.TheVariants as call
+use Rattle.pcm_states.specs.declared.states.State.TheVariants as state
 
 -- an error of a call that a report can have, once what it doesn't print is left out
 abbrev pub CanReport : PcmError → Type 0

@@ -1,17 +1,9 @@
 -- What is left of a client's stretch when frames are taken back.
-use Rattle.std.proofs.Common.{◌≡◌, ℕ, ◌+◌, ◌-◌, ◌<◌, ◌≤◌, refl, arith}
-use Rattle.std.proofs.lemmas.Bool.Decides.{nat_tests}
-use Rattle.std.specs.Prelude.{Bool, true, false, nat_eq, nat_lt, if◌then◌else◌, List, length, ℤ, zero, suc, min, max, slice_index}
-use Rattle.snd_base.specs.declared.geometry.Geometry.{Geometry}
-use Rattle.bindings.specs.Bound.{rising}
-use Rattle.bindings.specs.RisingLaws.{rising_from-rises}
-use Rattle.mix_core.specs.declared.marks.Marks.{Marks}
-use Rattle.mix_core.specs.declared.port.Ended.{Ended}
-use Rattle.mix_core.specs.declared.port.Ended.TheVariants as ended
-use Rattle.mix_core.specs.Marks.{withdrawn_at}
-use Rattle.dmix_client.specs.declared.commit.Commit.{Commit}
-use Rattle.dmix_client.specs.Rewind.{back_on, rewind_left, take_each, take_frames}
+use Rattle.run_laws.specs.Prelude.{arith, length, List, refl, ℕ, ◌+◌, ◌-◌, ◌<◌, ◌≡◌, ◌≤◌, nat_tests, Bool, false, if◌then◌else◌, max, min, nat_eq, nat_lt}
+use Rattle.run_laws.specs.Prelude.{slice_index, suc, true, zero, ℤ, Geometry, rising, rising_from-rises, Marks, Ended, withdrawn_at, Commit, back_on}
+use Rattle.run_laws.specs.Prelude.{rewind_left, take_each, take_frames}
 use Rattle.run_laws.proofs.Onward.{Leads, Leads-then, Lies, begun, begun-most, earlier-lies, high_end}
+use Rattle.mix_core.specs.declared.port.Ended.TheVariants as ended
 
 -- ---- a rewind
 

@@ -11,6 +11,7 @@ pub mod Once
 pub mod OneSample
 pub mod OneSession
 pub mod Played
+pub mod Prelude
 pub mod Recordings
 pub mod Reports
 pub mod Segments

@@ -1,13 +1,7 @@
 -- What a word that a turn finds says.
-use Rattle.std.proofs.Common.{◌≡◌, ℕ, ◌+◌, ◌*◌, ◌<◌, ◌≤◌, List, arith, subst, sym, ap, ◌∙◌}
-use Rattle.std.proofs.lemmas.Bool.Decides.{nat_tests}
-use Rattle.snd_base.specs.declared.geometry.Geometry.{Geometry}
-use Rattle.snd_base.specs.declared.places.Cursor.{Cursor}
-use Rattle.snd_base.specs.Places.{first_frame, first_free}
-use Rattle.snoop_core.specs.Ring.{word_in}
-use Rattle.snoop_core.specs.StoredLaws.{BySlots, IsByLaps, by_laps, own_sample}
-use Rattle.snoop_core.specs.View.{IsFoundWord, IsSoundSnoop, SnoopCoreView, geometry_of, word_at}
-use Rattle.snoop_core.specs.Word.{laps_of, sample_of}
+use Rattle.snoop_core.specs.Prelude.{ap, arith, List, subst, sym, ℕ, ◌*◌, ◌+◌, ◌<◌, ◌∙◌, ◌≡◌, ◌≤◌, nat_tests, Geometry, Cursor, first_frame, first_free}
+use Rattle.snoop_core.specs.Prelude.{word_in, by_laps, BySlots, IsByLaps, own_sample, geometry_of, IsFoundWord, IsSoundSnoop, SnoopCoreView, word_at, laps_of}
+use Rattle.snoop_core.specs.Prelude.{sample_of}
 
 -- the words of a list go by slots
 pub by_slots : (g : Geometry) (words : List ℕ) → BySlots g (word_in g words)

@@ -1,21 +1,15 @@
 -- The load of a frame by a turn, channel by channel.
-use Rattle.std.proofs.Common.{◌≡◌, ◌≢◌, ℕ, zero, suc, ◌+◌, ◌<◌, ◌≤◌, Some, List, [], ◌∷◌, All, length, get_or, set, replicate, ℤ, pos, inl, inr, arith, subst, sym, refl, ap, ◌∙◌}
-use Rattle.std.proofs.lemmas.List.{get_or-set_same, get_or-set_other, length-set}
-use Rattle.snd_base.specs.declared.places.Cursor.{Cursor}
-use Rattle.snd_base.specs.Places.{first_frame, lap}
+use Rattle.snoop_core.specs.Prelude.{All, ap, arith, get_or, inl, inr, length, List, pos, refl, replicate, set, Some, subst, suc, sym, zero, ℕ, ℤ, [], ◌+◌, ◌<◌}
+use Rattle.snoop_core.specs.Prelude.{◌∙◌, ◌∷◌, ◌≡◌, ◌≢◌, ◌≤◌, get_or-set_other, get_or-set_same, length-set, Cursor, first_frame, lap, Go, Stop, Look}
+use Rattle.snoop_core.specs.Prelude.{IsCaptured, sample_at, core_of, IsSame, TurnFinds, TurnGot, TurnLoaded, view_of_turn, word_of_turn, geometry_of}
+use Rattle.snoop_core.specs.Prelude.{IsFoundWord, next_frame, Represents, SnoopCoreView, word_at, laps_of, sample_of}
+use Rattle.std.proofs.lemmas.Bool.{cases_eq}
 use Rattle.mix_core.specs.declared.gate.Pass.{Pass}
-use Rattle.mix_core.specs.declared.gate.Pass.TheVariants.{Go, Stop}
 use Rattle.mix_core.specs.declared.gate.StepKind.{StepKind}
-use Rattle.mix_core.specs.declared.gate.StepKind.TheVariants.{Look}
 use Rattle.snoop_core.specs.declared.port.Frame.{Frame}
 use Rattle.snoop_core.specs.declared.port.Got.TheVariants.{Whole, Overtaken, Stopped}
 use Rattle.snoop_core.specs.declared.turn.SnoopTurn.{SnoopTurn}
 use Rattle.snoop_core.specs.Port.{Gets, numbered_frame}
-use Rattle.snoop_core.specs.Stored.{IsCaptured, sample_at}
-use Rattle.snoop_core.specs.Turn.{IsSame, TurnFinds, TurnGot, TurnLoaded, core_of, word_of_turn, view_of_turn}
-use Rattle.snoop_core.specs.View.{IsFoundWord, Represents, SnoopCoreView, geometry_of, next_frame, word_at}
-use Rattle.snoop_core.specs.Word.{laps_of, sample_of}
-use Rattle.std.proofs.lemmas.Bool.{cases_eq}
 
 -- a published frame is not stored over
 pub record IsKept (v : SnoopCoreView) (f : ℕ) : Type 0 where

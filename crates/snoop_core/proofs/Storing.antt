@@ -1,15 +1,9 @@
 -- What a store does to the words of a ring with one owner.
-use Rattle.std.proofs.Common.{◌≡◌, ℕ, ◌+◌, ◌*◌, ◌<◌, ◌≤◌, List, [], ◌∷◌, ◌++◌, length, get_or, set, ℤ, arith, subst, sym, refl, ap, ◌∙◌, append_assoc}
-use Rattle.std.proofs.lemmas.Bool.Decides.{nat_tests}
-use Rattle.std.proofs.lemmas.List.{get_or-set_same, get_or-set_other, length-set}
-use Rattle.snd_base.specs.declared.geometry.Geometry.{Geometry}
-use Rattle.snd_base.specs.declared.places.Cursor.{Cursor}
+use Rattle.snoop_core.specs.Prelude.{ap, append_assoc, arith, get_or, length, List, refl, set, subst, sym, ℕ, ℤ, [], ◌*◌, ◌++◌, ◌+◌, ◌<◌, ◌∙◌, ◌∷◌, ◌≡◌, ◌≤◌}
+use Rattle.snoop_core.specs.Prelude.{nat_tests, get_or-set_other, get_or-set_same, length-set, Geometry, Cursor, cursor_after, end_frame, lap, word_index}
+use Rattle.snoop_core.specs.Prelude.{after_samples, ArePartStored, HoldsSamples, IsSampleStored, IsSoundRing, RingView, word_in, next_after_stored}
+use Rattle.snoop_core.specs.Prelude.{HaveLaps-written, HoldLast-written, IsWritten, next_after_stored-more, HoldsSample}
 use Rattle.snd_base.specs.PlaceLaws.{suc-le-end_frame, word_index-lt, word_index-same}
-use Rattle.snd_base.specs.Places.{cursor_after, end_frame, lap, word_index}
-use Rattle.snoop_core.specs.Ring.{ArePartStored, HoldsSamples, IsSampleStored, IsSoundRing, RingView, after_samples, word_in}
-use Rattle.snoop_core.specs.Stored.{next_after_stored}
-use Rattle.snoop_core.specs.StoredLaws.{HaveLaps-written, HoldLast-written, IsWritten, next_after_stored-more}
-use Rattle.snoop_core.specs.Word.{HoldsSample}
 
 -- one word of the list was written
 written : (g : Geometry) (next : Cursor) (words : List ℕ) (new : ℕ) → length words ≡ g.frames * g.channels → next.channel < g.channels

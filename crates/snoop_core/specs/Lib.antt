@@ -1,5 +1,6 @@
 pub mod Port
 pub mod PortLaws
+pub mod Prelude
 pub mod Ring
 pub mod Stored
 pub mod StoredLaws

@@ -1,32 +1,13 @@
 -- Splits and joins keep the rule, and what they make of the fields of the seats.
-use Rattle.std.proofs.Common.{◌≡◌, ◌⊎◌, ℕ, ◌+◌, true, false, Option, None, Some, List, get_or, set, inl, inr, arith, subst, sym, refl, ◌≤◌, ◌||◌, Bool, max, ap, ◌∙◌}
-use mathlib.Core.Option.{none, some, some-ne-none}
-use lib.ListN.{get_elem?}
-use Rattle.std.proofs.lemmas.Bool.{false≢true, or_left, or_right}
-use Rattle.atomic_table.specs.Table.{Allows, Joins, Me, Splits, keeps, step}
-use Rattle.atomic_table.proofs.Lists.{at_set, at_longer}
-use Rattle.snd_base.specs.declared.geometry.Geometry.{Geometry}
-use Rattle.snd_base.specs.Places.{lap}
-use Rattle.ring_rule.specs.Lists.{at_append, at_second}
-use Rattle.ring_rule.specs.NoteLaws.{later_notes-one, no_note, later_notes-keeps, later_notes-length}
+use Rattle.snoop_table.specs.Prelude.{ap, arith, Bool, false, get_or, inl, inr, List, max, None, Option, refl, set, Some, subst, sym, true, ℕ, ◌+◌, ◌||◌, ◌∙◌}
+use Rattle.snoop_table.specs.Prelude.{◌≡◌, ◌≤◌, ◌⊎◌, false≢true, or_left, or_right, at_longer, at_set, Allows, Joins, keeps, Me, Splits, step, get_elem?, none}
+use Rattle.snoop_table.specs.Prelude.{some, some-ne-none, Geometry, Cursor, lap, HoldsSample-fields, laps_of, at_append, at_second, later_notes-keeps}
+use Rattle.snoop_table.specs.Prelude.{later_notes-length, later_notes-one, no_note, has_all-more, has_each, NotPast-upper, index_of, NotPast, rank, Desk}
+use Rattle.snoop_table.specs.Prelude.{ReaderSeat, Track, View, Holds, is_tracked, IsView, LoadsStored, position_of, the_track, word_in, both_of, either_track}
+use Rattle.snoop_table.specs.Prelude.{part_of, spent_view, DeskGave, DeskHeard, IsBorneOut, IsReader, IsWriter, view_of, Knows, quiet_load, desk_track}
+use Rattle.snoop_table.specs.Prelude.{desk_view}
 use Rattle.ring_rule.specs.SeatLaws.{HasTrack-join, HasTrack-split, each-join, each-split, or_true}
-use Rattle.ring_rule.specs.WordLaws.{NotPast-upper}
-use Rattle.ring_rule.specs.Words.{NotPast, index_of, rank}
-use Rattle.snoop_core.specs.Word.{HoldsSample-fields, laps_of}
-use Rattle.snoop_table.specs.declared.view.Track.{Track}
-use Rattle.snoop_table.specs.declared.view.View.{View}
-use Rattle.snoop_table.specs.Captured.{Holds, IsView, LoadsStored, word_in, is_tracked, position_of, the_track}
-use Rattle.snoop_table.specs.Cuts.{both_of, either_track, part_of, spent_view}
-use Rattle.snoop_table.specs.Steps.{Knows, quiet_load}
 use Rattle.snoop_table.proofs.Keeps.{IsSo, idle, loaded, tracked_some}
-use Rattle.snd_base.specs.declared.places.Cursor.{Cursor}
-use Rattle.ring_rule.specs.PositionLaws.{has_all-more, has_each}
-use Rattle.snoop_table.specs.declared.seats.desk.Desk.{Desk}
-use Rattle.snoop_table.specs.declared.seats.reader.ReaderSeat.{ReaderSeat}
-use Rattle.snoop_table.specs.Joins.{DeskGave, DeskHeard, IsBorneOut}
-use Rattle.snoop_table.specs.Known.{IsReader, IsWriter}
-use Rattle.snoop_table.specs.Readers.{view_of}
-use Rattle.snoop_table.specs.Writers.{desk_track, desk_view}
 
 -- a seat's own view stays, and a new seat has seen as much
 pub splits : (g : Geometry) (id : ℕ) (v : View) → Splits (Holds g) id v v (part_of v)

@@ -1,23 +1,13 @@
 -- The load of a frame by a reader's seat, channel by channel.
-use Rattle.std.proofs.Common.{◌≡◌, ◌≢◌, ℕ, zero, suc, ◌+◌, ◌<◌, ◌==◌, true, false, List, [], ◌∷◌, ◌++◌, length, set, take, cond, replicate, ℤ, arith, subst, sym, refl, ap, ◌∙◌}
+use Rattle.snoop_table.specs.Prelude.{ap, arith, cond, false, length, List, refl, set, subst, suc, sym, take, true, zero, ℕ, ℤ, [], ◌++◌, ◌+◌, ◌<◌, ◌==◌, ◌∙◌}
+use Rattle.snoop_table.specs.Prelude.{◌∷◌, ◌≡◌, ◌≢◌, nat_tests, append-nil, length-set, Geometry, lap, Go, Stop, Look, Frame, Gets, numbered_frame, SnoopView}
+use Rattle.snoop_table.specs.Prelude.{laps_of, sample_of, index_of, ReaderSeat, View, HasLooked, IsLaterSeat, IsLaterSeat-joined, noted_word, or_false}
+use Rattle.snoop_table.specs.Prelude.{seat_view, SeatFinds, SeatGot, SeatLoaded, view_of, samples_before, with_note, with_sample}
+use Rattle.std.proofs.Common.{replicate}
 use Rattle.std.proofs.Math.Seq.{take-length, take-suc-set}
-use Rattle.std.proofs.lemmas.Bool.Decides.{nat_tests}
-use Rattle.std.proofs.lemmas.List.{append-nil, length-set}
-use Rattle.snd_base.specs.declared.geometry.Geometry.{Geometry}
-use Rattle.snd_base.specs.Places.{lap}
 use Rattle.mix_core.specs.declared.gate.Pass.{Pass}
-use Rattle.mix_core.specs.declared.gate.Pass.TheVariants.{Go, Stop}
 use Rattle.mix_core.specs.declared.gate.StepKind.{StepKind}
-use Rattle.mix_core.specs.declared.gate.StepKind.TheVariants.{Look}
-use Rattle.ring_rule.specs.Words.{index_of}
-use Rattle.snoop_core.specs.declared.port.Frame.{Frame}
 use Rattle.snoop_core.specs.declared.port.Got.TheVariants.{Overtaken, Stopped}
-use Rattle.snoop_core.specs.Port.{Gets, SnoopView, numbered_frame}
-use Rattle.snoop_core.specs.Word.{laps_of, sample_of}
-use Rattle.snoop_table.specs.declared.seats.reader.ReaderSeat.{ReaderSeat}
-use Rattle.snoop_table.specs.declared.view.View.{View}
-use Rattle.snoop_table.specs.Readers.{IsLaterSeat, IsLaterSeat-joined, HasLooked, SeatFinds, SeatGot, SeatLoaded, or_false, seat_view, noted_word, view_of}
-use Rattle.snoop_table.specs.Steps.{samples_before, with_note, with_sample}
 
 -- the channels of a frame before one were loaded, each with the frame's own lap
 pub record IsFetching (s t : ReaderSeat) (f c : ℕ) (out : List ℤ) : Type 0 where

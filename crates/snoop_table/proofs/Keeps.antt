@@ -1,33 +1,19 @@
 -- Steps keep the rule, and what they show holds: a reader's loads, and the writer's stores.
-use Rattle.std.proofs.Common.{◌≡◌, ◌⊎◌, ℕ, zero, suc, ◌+◌, ◌*◌, ◌<◌, ◌≤◌, ◌==◌, Bool, true, false, Some, List, [], ◌∷◌, ◌++◌, length, get_or, set, cond, ℤ, pos, inl, inr, arith, subst, sym, refl, ap, ◌∙◌, ◌-◌, ◌%◌, Option, None}
-use mathlib.Core.Option.{none, some}
-use lib.ListN.{get_elem?}
-use Rattle.std.proofs.lemmas.Bool.Decides.{nat_tests}
-use Rattle.std.proofs.lemmas.List.{get_or_append_left, get_or_at, length-append, get_or-set_same, get_or-set_other, length-set}
-use Rattle.atomic_table.specs.Table.{Act, Allows, Me, Valid, carried_after, keeps, step, stepped, State}
-use Rattle.atomic_table.proofs.Lists.{at_set, at_snoc}
-use Rattle.snd_base.specs.declared.geometry.Geometry.{Geometry}
-use Rattle.snd_base.specs.Places.{first_frame, first_free, lap, cursor_after, end_frame}
-use Rattle.ring_rule.specs.NoteLaws.{noted_set}
-use Rattle.ring_rule.specs.PositionLaws.{IsPosition-last, IsPosition-more, Rising-more, last_number-more}
-use Rattle.ring_rule.specs.Positions.{IsPosition, Rising, last_position}
-use Rattle.ring_rule.specs.WordLaws.{set_read, NotPast-position, NotPast-set, index_of-lt, index_of-same}
-use Rattle.ring_rule.specs.Words.{NotPast, index_of, rank, words_of}
-use Rattle.snoop_core.specs.declared.port.Frame.{Frame}
-use Rattle.snoop_core.specs.Port.{numbered_frame}
-use Rattle.snoop_core.specs.Stored.{IsCaptured, next_after_stored, HoldLast, IsLast, IsUnused, sample_at}
-use Rattle.snoop_core.specs.StoredLaws.{BySlots, HaveLaps-holding, IsByLaps, IsCaptured-more, by_laps, first_free-more, own_sample, sample_at-more, HoldLast-written, IsWritten, next_after_stored-channel, next_after_stored-grows, next_after_stored-more}
-use Rattle.snoop_core.specs.Word.{laps_of, sample_of, HoldsSample, HoldsSample-fields}
-use Rattle.snoop_table.specs.declared.view.Track.{Track}
-use Rattle.snoop_table.specs.declared.view.View.{View}
-use Rattle.snoop_table.specs.Captured.{AreViews, Holds, LoadsStored, IsRing, IsSample, IsView, next_to_store, position_of, word_in, is_tracked, the_track}
-use Rattle.snoop_table.specs.Steps.{Finds, IsNext, position_load, word_load, samples_before, with_note, with_position, with_sample, position_store, sample_store, track_gone, track_published, track_stored, unplug_store, with_gone, with_published, with_stored}
-use Rattle.std.proofs.lemmas.Bool.{cases_eq, cases_lt, false≢true}
+use Rattle.snoop_table.specs.Prelude.{ap, arith, Bool, cond, false, get_or, inl, inr, length, List, None, Option, pos, refl, set, Some, subst, suc, sym, true}
+use Rattle.snoop_table.specs.Prelude.{zero, ℕ, ℤ, [], ◌%◌, ◌*◌, ◌++◌, ◌+◌, ◌-◌, ◌<◌, ◌==◌, ◌∙◌, ◌∷◌, ◌≡◌, ◌≤◌, ◌⊎◌, add-mod_right, cases_eq, cases_lt}
+use Rattle.snoop_table.specs.Prelude.{false≢true, nat_tests, get_or-set_other, get_or-set_same, get_or_append_left, get_or_at, length-append, length-set}
+use Rattle.snoop_table.specs.Prelude.{at_set, at_snoc, Act, Allows, carried_after, keeps, Me, State, step, stepped, Valid, get_elem?, none, some, Geometry}
+use Rattle.snoop_table.specs.Prelude.{Cursor, div-lt_same, suc-le-end_frame, cursor_after, end_frame, first_frame, first_free, lap, word_of, Frame}
+use Rattle.snoop_table.specs.Prelude.{numbered_frame, HoldLast, IsCaptured, IsLast, IsUnused, next_after_stored, sample_at, by_laps, BySlots, first_free-more}
+use Rattle.snoop_table.specs.Prelude.{HaveLaps-holding, HoldLast-written, IsByLaps, IsCaptured-more, IsWritten, next_after_stored-channel}
+use Rattle.snoop_table.specs.Prelude.{next_after_stored-grows, next_after_stored-more, own_sample, sample_at-more, HoldsSample, HoldsSample-fields, laps_of}
+use Rattle.snoop_table.specs.Prelude.{sample_of, noted_set, IsPosition-last, IsPosition-more, last_number-more, Rising-more, index_of-lt, index_of-same}
+use Rattle.snoop_table.specs.Prelude.{NotPast-position, NotPast-set, set_read, index_of, NotPast, rank, words_of, Track, View, AreViews, Holds, is_tracked}
+use Rattle.snoop_table.specs.Prelude.{IsRing, IsSample, IsView, LoadsStored, next_to_store, position_of, the_track, word_in, Finds, IsNext, position_load}
+use Rattle.snoop_table.specs.Prelude.{position_store, sample_store, samples_before, track_gone, track_published, track_stored, unplug_store, with_gone}
+use Rattle.snoop_table.specs.Prelude.{with_note, with_position, with_published, with_sample, with_stored, word_load}
 use Rattle.std.proofs.lemmas.Nat.{le-div}
-use Rattle.std.proofs.Math.Nat.{add-mod_right}
-use Rattle.snd_base.specs.declared.places.Cursor.{Cursor}
-use Rattle.snd_base.specs.PlaceLaws.{div-lt_same, suc-le-end_frame}
-use Rattle.lap_word.specs.Position.{word_of}
+use Rattle.ring_rule.specs.Positions.{IsPosition, Rising, last_position}
 
 -- what the rule says of some words and views, with the writer's track
 pub record IsSo (g : Geometry) (words : List ℕ) (views : List View) (at : ℕ) (t : Track) : Type 0 where

@@ -1,23 +1,8 @@
 -- A new ring meets the rule.
-use Rattle.std.proofs.Common.{◌≡◌, ℕ, ◌≤◌, false, List, [], length, get_or, set, pos, arith, subst, sym, ap, ◌∙◌}
-use mathlib.Core.Option.{some-ne-none}
-use Rattle.std.proofs.Math.ListN.{replicate}
-use Rattle.std.proofs.Math.Nat.{mul-le-mul_right}
-use Rattle.std.proofs.lemmas.Bool.Decides.{nat_tests}
-use Rattle.std.proofs.lemmas.List.{get_or-replicate, get_or-set_other, get_or-set_same, length-replicate, length-set}
-use Rattle.atomic_table.specs.Table.{opening}
-use Rattle.snd_base.specs.declared.geometry.Geometry.{Geometry}
-use Rattle.snd_base.specs.declared.places.Cursor.{Cursor}
-use Rattle.snd_base.specs.Places.{end_frame, first_frame, first_free}
-use Rattle.lap_word.specs.Position.{word_of}
-use Rattle.ring_rule.specs.Lists.{at_only}
-use Rattle.ring_rule.specs.NoteLaws.{no_note, none_there}
-use Rattle.ring_rule.specs.WordLaws.{index_of-lt}
-use Rattle.ring_rule.specs.Words.{index_of, words_of}
-use Rattle.snoop_core.specs.Stored.{HoldLast, IsLast}
-use Rattle.snoop_core.specs.Word.{HoldsSample}
-use Rattle.snoop_table.specs.declared.view.View.{View}
-use Rattle.snoop_table.specs.Captured.{Holds, IsRing, IsView, first_track, first_view, next_to_store, word_in}
+use Rattle.snoop_table.specs.Prelude.{ap, arith, false, get_or, length, List, pos, set, subst, sym, ℕ, [], ◌∙◌, ◌≡◌, ◌≤◌, replicate, mul-le-mul_right}
+use Rattle.snoop_table.specs.Prelude.{nat_tests, get_or-replicate, get_or-set_other, get_or-set_same, length-replicate, length-set, opening, some-ne-none}
+use Rattle.snoop_table.specs.Prelude.{Geometry, Cursor, end_frame, first_frame, first_free, word_of, HoldLast, IsLast, HoldsSample, at_only, no_note}
+use Rattle.snoop_table.specs.Prelude.{none_there, index_of-lt, index_of, words_of, View, first_track, first_view, Holds, IsRing, IsView, next_to_store, word_in}
 use Rattle.snoop_table.proofs.Keeps.{track_or}
 
 -- the words of a new ring

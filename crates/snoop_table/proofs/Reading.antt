@@ -1,26 +1,11 @@
 -- What a reader's steps may do and do, said of the fields of its seat.
-use Rattle.std.proofs.Common.{◌≡◌, ℕ, ◌+◌, ◌<◌, ◌≤◌, Some, None, length, get_or, set, inl, inr, arith, subst, sym, refl, ap, ◌∙◌}
-use mathlib.Core.Option.{none}
-use Rattle.std.proofs.lemmas.List.{get_or-set_same}
-use Rattle.atomic_table.specs.Table.{Allows, Me, step}
-use Rattle.snd_base.specs.declared.geometry.Geometry.{Geometry}
-use Rattle.snd_base.specs.Places.{end_frame, lap}
-use Rattle.lap_word.specs.Position.{gone_in, position_in, word_of-fields}
+use Rattle.snoop_table.specs.Prelude.{ap, arith, get_or, inl, inr, length, None, refl, set, Some, subst, sym, ℕ, ◌+◌, ◌<◌, ◌∙◌, ◌≡◌, ◌≤◌, cases_eq}
+use Rattle.snoop_table.specs.Prelude.{get_or-set_same, Allows, Me, step, none, Geometry, end_frame, lap, gone_in, position_in, word_of-fields, laps_of}
+use Rattle.snoop_table.specs.Prelude.{sample_of, NeverFall-same, NeverFall-set, position_fits, index_of-lt, index_of, ReaderSeat, View, Holds, IsReader}
+use Rattle.snoop_table.specs.Prelude.{HasLocated, HasLooked, view_of, IsNext, position_load, with_note, with_position, with_sample, word_load}
 use Rattle.mix_core.specs.declared.port.Position.{Position}
-use Rattle.ring_rule.specs.NoteLaws.{NeverFall-same, NeverFall-set}
 use Rattle.ring_rule.specs.Notes.{NeverFall}
-use Rattle.ring_rule.specs.PositionLaws.{position_fits}
-use Rattle.ring_rule.specs.WordLaws.{index_of-lt}
-use Rattle.ring_rule.specs.Words.{index_of}
-use Rattle.snoop_core.specs.Word.{laps_of, sample_of}
-use Rattle.snoop_table.specs.declared.seats.reader.ReaderSeat.{ReaderSeat}
-use Rattle.snoop_table.specs.declared.view.View.{View}
-use Rattle.snoop_table.specs.Captured.{Holds}
-use Rattle.snoop_table.specs.Known.{IsReader}
-use Rattle.snoop_table.specs.Readers.{HasLocated, HasLooked, view_of}
-use Rattle.snoop_table.specs.Steps.{IsNext, position_load, word_load, with_note, with_position, with_sample}
 use Rattle.snoop_table.proofs.Keeps.{locates, looks}
-use Rattle.std.proofs.lemmas.Bool.{cases_eq}
 
 -- a load of the position
 pub may_locate : (s : ReaderSeat) (slots : ℕ) → Allows (Holds s.ring.now.key) slots s.seat.id s.seat.me 0 (λ n. n) (position_load (step slots 0 0 0 none) s.seat.me)

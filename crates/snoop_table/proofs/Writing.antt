@@ -1,26 +1,11 @@
 -- What the writer's steps may do and do, said of the fields of its seat.
-use Rattle.std.proofs.Common.{◌≡◌, ℕ, ◌+◌, ◌*◌, ◌<◌, ◌≤◌, Bool, true, Some, ℤ, arith, subst, sym, ap, ◌∙◌, inl, inr}
-use mathlib.Core.Option.{none}
-use Rattle.std.proofs.lemmas.Bool.{cases_lt}
-use Rattle.std.proofs.lemmas.Bool.Decides.{nat_tests}
-use Rattle.std.proofs.Math.Nat.{lt_of_mul-lt-mul_left, mul-le-mul_left}
-use Rattle.atomic_table.specs.Table.{Allows, Me, step}
-use Rattle.snd_base.specs.declared.geometry.Geometry.{Geometry}
-use Rattle.snd_base.specs.declared.places.Cursor.{Cursor}
-use Rattle.snd_base.specs.PlaceLaws.{div-suc_high, div-suc_low, mod-suc_high, mod-suc_low, suc-le-end_frame}
-use Rattle.snd_base.specs.Places.{IsWithin, cursor_after, end_frame, first_frame, lap, slot}
-use Rattle.lap_word.specs.Position.{word_of}
-use Rattle.ring_rule.specs.PositionLaws.{has_all-published, last_number-more}
-use Rattle.snoop_core.specs.StoredLaws.{next_after_stored-more}
-use Rattle.snoop_core.specs.Word.{HoldsSample, HoldsSample-fields, sample_of}
-use Rattle.snoop_table.specs.declared.seats.desk.Desk.{Desk}
+use Rattle.snoop_table.specs.Prelude.{ap, arith, Bool, inl, inr, Some, subst, sym, true, ℕ, ℤ, ◌*◌, ◌+◌, ◌<◌, ◌∙◌, ◌≡◌, ◌≤◌, lt_of_mul-lt-mul_left}
+use Rattle.snoop_table.specs.Prelude.{mul-le-mul_left, cases_lt, nat_tests, Allows, Me, step, none, Geometry, Cursor, div-suc_high, div-suc_low, mod-suc_high}
+use Rattle.snoop_table.specs.Prelude.{mod-suc_low, suc-le-end_frame, cursor_after, end_frame, first_frame, IsWithin, lap, slot, word_of, next_after_stored-more}
+use Rattle.snoop_table.specs.Prelude.{HoldsSample, HoldsSample-fields, sample_of, has_all-published, last_number-more, Desk, Track, View, Holds, next_to_store}
+use Rattle.snoop_table.specs.Prelude.{position_of, the_track, IsWritePlace, IsWriter, position_store, sample_store, track_published, track_stored, unplug_store}
+use Rattle.snoop_table.specs.Prelude.{with_gone, with_published, with_stored, desk_track, desk_view, HasPublished, HasStoredSample, HasUnplugged}
 use Rattle.snoop_table.specs.declared.seats.place.WritePlace.{WritePlace}
-use Rattle.snoop_table.specs.declared.view.Track.{Track}
-use Rattle.snoop_table.specs.declared.view.View.{View}
-use Rattle.snoop_table.specs.Captured.{Holds, next_to_store, position_of, the_track}
-use Rattle.snoop_table.specs.Known.{IsWritePlace, IsWriter}
-use Rattle.snoop_table.specs.Steps.{position_store, sample_store, unplug_store, with_gone, with_published, with_stored, track_published, track_stored}
-use Rattle.snoop_table.specs.Writers.{HasPublished, HasStoredSample, HasUnplugged, desk_track, desk_view}
 use Rattle.snoop_table.proofs.Keeps.{publishes, stores, unplugs}
 
 -- the place after the last channel of a frame: in the next slot, or in the first one of the next lap

@@ -2,6 +2,7 @@ pub mod Captured
 pub mod Cuts
 pub mod Joins
 pub mod Known
+pub mod Prelude
 pub mod Readers
 pub mod Rings
 pub mod Steps

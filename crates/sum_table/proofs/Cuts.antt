@@ -1,50 +1,25 @@
 -- Splits and joins keep the rule, and what they make of the fields of the seats.
-use Rattle.std.proofs.Common.{◌≡◌, ◌⊎◌, ℕ, zero, suc, ◌+◌, ◌*◌, ◌≤◌, true, false, Option, None, Some, List, [], ◌∷◌, ◌++◌, map, length, get_or, set, ℤ, pos, inl, inr, arith, subst, sym, refl, ap, ◌∙◌, ◌-◌, ◌||◌, Bool, max}
-use mathlib.Core.Option.{some, none, some-ne-none}
-use lib.ListN.{get_elem?}
-use Rattle.std.proofs.lemmas.Bool.{false≢true, or_right}
-use Rattle.std.proofs.lemmas.Int.{ints}
-use Rattle.std.proofs.lemmas.List.{length-append, length-set, append-nil}
-use Rattle.atomic_table.specs.Table.{Allows, Joins, Me, Splits, keeps, step}
-use Rattle.atomic_table.proofs.Lists.{at_set}
-use Rattle.snd_base.specs.declared.geometry.Geometry.{Geometry}
-use Rattle.snd_base.specs.Places.{lap, IsWithin, first_frame}
-use Rattle.lap_word.specs.Word.{StandsFor-fields, lap_of}
-use Rattle.mix_core.specs.declared.port.Entry.{Entry}
-use Rattle.mix_core.specs.History.{Row, laid_of, AreExact, AreInOrder, IsLegal}
-use Rattle.mix_core.specs.HistoryLaws.{total-append}
-use Rattle.mix_core.specs.Laid.{at, sum_of_samples, total}
-use Rattle.sum_table.specs.declared.view.Key.{Key}
-use Rattle.sum_table.specs.declared.view.Track.{Track}
-use Rattle.sum_table.specs.declared.view.View.{View}
-use Rattle.sum_table.specs.Cuts.{both_of, either_track, part_of, spent_view, with_places, joined_marks, later_of, without_places}
-use Rattle.sum_table.specs.Exact.{IsLaid, BeginsWith, Exact, IsKept, IsView, start_marks, IsPublishedPosition, is_tracked, next_at, position_at, the_track}
-use Rattle.sum_table.specs.Laid.{SameSums, all_laid, by_member, count, total_places}
-use Rattle.sum_table.specs.Steps.{Knows, quiet_load, with_history, IsStep, Makes}
-use Rattle.ring_rule.specs.Words.{NotPast, index_of, rank}
-use Rattle.sum_table.proofs.Kept.{kept_join, kept_none, kept_places, IsLaid-later}
-use Rattle.sum_table.proofs.Keeps.{Holds, idle, loaded, none_made, tracked_some}
-use Rattle.ring_rule.specs.Lists.{at_append, at_second}
+use Rattle.sum_table.specs.Prelude.{ap, arith, Bool, false, get_or, inl, inr, length, List, map, max, None, Option, pos, refl, set, Some, subst, suc, sym, true}
+use Rattle.sum_table.specs.Prelude.{zero, ℕ, ℤ, [], ◌*◌, ◌++◌, ◌+◌, ◌-◌, ◌||◌, ◌∙◌, ◌∷◌, ◌≡◌, ◌≤◌, ◌⊎◌, false≢true, or_right, nat_tests, ints, append-nil}
+use Rattle.sum_table.specs.Prelude.{length-append, length-set, at_set, Allows, Joins, keeps, Me, Splits, step, get_elem?, none, some, some-ne-none, Geometry}
+use Rattle.sum_table.specs.Prelude.{Cursor, first_frame, IsWithin, lap, lap_of, StandsFor-fields, Marks, Entry, AreExact, AreInOrder, IsLegal, laid_of, Row}
+use Rattle.sum_table.specs.Prelude.{total-append, at, sum_of_samples, total, first_frame-le, later_of, start_marks, IsNow, at_append, at_second}
+use Rattle.sum_table.specs.Prelude.{later_notes-keeps, later_notes-length, later_notes-one, no_note, has_all-more, has_each, index_of, NotPast, rank, MixSeat}
+use Rattle.sum_table.specs.Prelude.{PlayerSeat, Track, View, both_of, either_track, joined_marks, part_of, spent_view, with_places, without_places, BeginsWith}
+use Rattle.sum_table.specs.Prelude.{Exact, is_tracked, IsKept, IsLaid, IsPublishedPosition, IsView, next_at, position_at, the_track, greater, IsKnown, IsNoted}
+use Rattle.sum_table.specs.Prelude.{IsPlayer, last_frame, all_laid, by_member, count, SameSums, total_places, player_view, track_of, view_of, IsStep, Knows}
+use Rattle.sum_table.specs.Prelude.{Makes, quiet_load, with_history}
 use Rattle.ring_rule.specs.SeatLaws.{HasTrack-join, HasTrack-split, each-join, each-split, or_true, join_views, split_views}
+use Rattle.sum_table.specs.declared.seats.note.SeatNote.{SeatNote}
+use Rattle.sum_table.specs.declared.view.Key.{Key}
+use Rattle.sum_table.specs.Joins.{HasClosed, HasHeard, HasJoined, HasMet, HasPlayerNote, note_view}
+use Rattle.sum_table.proofs.Highs.{IsReach-joined, IsReach-start, greater_none}
+use Rattle.sum_table.proofs.Keeps.{Holds, idle, loaded, none_made, tracked_some}
+use Rattle.sum_table.proofs.Kept.{kept_join, kept_none, kept_places, IsLaid-later}
 use Rattle.sum_table.proofs.Rings.{IsRing-same}
 use Rattle.sum_table.proofs.Rows.{BeginsWith-same, history_over, owns_same}
-use Rattle.sum_table.proofs.Sums.{SameSums-joined, SameSums-more, SameSums-set, count-append, count_few, count_set, total_places-more, places_set, places_within, total_set}
-use Rattle.ring_rule.specs.NoteLaws.{later_notes-one, no_note, later_notes-keeps, later_notes-length}
-use Rattle.std.proofs.lemmas.Bool.Decides.{nat_tests}
-use Rattle.snd_base.specs.declared.places.Cursor.{Cursor}
-use Rattle.mix_core.specs.declared.marks.Marks.{Marks}
-use Rattle.mix_core.specs.LegalLaws.{first_frame-le}
-use Rattle.mix_core.specs.Sound.{IsNow}
-use Rattle.sum_table.specs.declared.seats.mix.MixSeat.{MixSeat}
-use Rattle.sum_table.specs.declared.seats.note.SeatNote.{SeatNote}
-use Rattle.sum_table.specs.declared.seats.player.PlayerSeat.{PlayerSeat}
-use Rattle.sum_table.specs.Joins.{HasClosed, HasHeard, HasJoined, HasMet, HasPlayerNote, note_view}
-use Rattle.sum_table.specs.Known.{IsKnown, IsNoted, IsPlayer, greater, last_frame}
-use Rattle.sum_table.specs.Players.{player_view, track_of}
-use Rattle.sum_table.specs.Seats.{view_of}
-use Rattle.sum_table.proofs.Highs.{IsReach-joined, IsReach-start, greater_none}
-use Rattle.ring_rule.specs.PositionLaws.{has_all-more, has_each}
 use Rattle.sum_table.proofs.Seated.{MarksWithin, last_frame-append, step_begins}
+use Rattle.sum_table.proofs.Sums.{SameSums-joined, SameSums-more, SameSums-set, count-append, count_few, count_set, total_places-more, places_set, places_within, total_set}
 
 -- places move to a new seat
 pub splits : (k : Key) (id : ℕ) (v : View) (left right : ℕ) → v.key ≡ k → left + right ≡ v.places

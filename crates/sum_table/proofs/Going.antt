@@ -1,12 +1,8 @@
 -- What the tests conclude of a seat: it goes on, and its last standing add is the one that it placed.
-use Rattle.std.proofs.Common.{◌≡◌, ℕ, ℤ, Ok, [], ◌∷◌, refl, sym, subst}
-use Rattle.std.proofs.lemmas.List.{append-nil}
+use Rattle.sum_table.specs.Prelude.{Ok, refl, subst, sym, ℕ, ℤ, [], ◌∷◌, ◌≡◌, append-nil, an_add, AreAdds, standing, ended_of, OnWhole, MixSeat, IsLaterSeat}
+use Rattle.sum_table.specs.Prelude.{IsLaterSeat-same, SeatEndsIn, SeatEndsIn-laid, SeatLaid, view_of}
 use Rattle.mix_core.specs.declared.port.Placed.{Placed}
 use Rattle.mix_core.specs.declared.port.Placed.TheVariants.{In, Late}
-use Rattle.mix_core.specs.Port.{OnWhole, ended_of}
-use Rattle.mix_core.specs.Laid.{AreAdds, an_add, standing}
-use Rattle.sum_table.specs.declared.seats.mix.MixSeat.{MixSeat}
-use Rattle.sum_table.specs.Seats.{IsLaterSeat, IsLaterSeat-same, SeatEndsIn, SeatEndsIn-laid, SeatLaid, view_of}
 
 pub stays : (s : MixSeat) → IsLaterSeat s s
 stays s = IsLaterSeat-same s

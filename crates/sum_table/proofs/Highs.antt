@@ -1,18 +1,9 @@
 -- The greatest frame that a seat placed in is the last one before its high.
-use Rattle.std.proofs.Common.{◌≡◌, ℕ, zero, suc, ◌+◌, ◌<◌, ◌≤◌, Bool, true, false, Option, None, Some, is_some, List, [], ◌∷◌, max, if◌then◌else◌, arith, subst, sym, refl, ap, ◌∙◌}
-use mathlib.Core.Option.{some, some-injective, some-ne-none}
-use lib.ListN.{get_elem?}
-use Rattle.std.proofs.lemmas.Bool.{false≢true}
-use Rattle.std.proofs.lemmas.Bool.Decides.{nat_tests}
+use Rattle.sum_table.specs.Prelude.{ap, arith, Bool, false, if◌then◌else◌, is_some, List, max, None, Option, refl, Some, subst, suc, sym, true, zero, ℕ, []}
+use Rattle.sum_table.specs.Prelude.{◌+◌, ◌<◌, ◌∙◌, ◌∷◌, ◌≡◌, ◌≤◌, false≢true, nat_tests, get_elem?, some, some-injective, some-ne-none, Geometry, Cursor}
+use Rattle.sum_table.specs.Prelude.{cursor_after, first_frame, first_free, IsFrom, Marks, Entry, added_at, high_frame, is_before, last_before, later_of}
+use Rattle.sum_table.specs.Prelude.{start_marks, start_of, withdrawn_at, joined_marks, free_from, greater, IsReach, last_frame}
 use Rattle.std.proofs.lemmas.Option.{none-some, same_Some}
-use Rattle.snd_base.specs.declared.geometry.Geometry.{Geometry}
-use Rattle.snd_base.specs.declared.places.Cursor.{Cursor}
-use Rattle.snd_base.specs.Places.{IsFrom, cursor_after, first_frame, first_free}
-use Rattle.mix_core.specs.declared.marks.Marks.{Marks}
-use Rattle.mix_core.specs.declared.port.Entry.{Entry}
-use Rattle.mix_core.specs.Marks.{added_at, high_frame, is_before, last_before, later_of, start_marks, start_of, withdrawn_at}
-use Rattle.sum_table.specs.Cuts.{joined_marks}
-use Rattle.sum_table.specs.Known.{IsReach, free_from, greater, last_frame}
 
 -- the last frame before a cursor, where that is past a start
 abbrev frame_before : Cursor → Cursor → Option ℕ

@@ -1,48 +1,23 @@
 -- Steps keep the rule, and what they show holds: the loads and the exchange of a mix seat, and what the player does.
-use Rattle.std.proofs.Common.{◌≡◌, Option, None, Some, ℕ, ◌+◌, ◌<◌, ◌≤◌, true, false, List, [], ◌∷◌, ◌++◌, length, get_or, set, ℤ, pos, negsuc, ◌+ℤ◌, ◌≤ℤ◌, inl, inr, arith, subst, sym, refl, ap, ◌∙◌, nat_lt, ◌==◌, ◌%◌, Bool}
-use mathlib.Core.Option.{some, none}
-use lib.ListN.{get_elem?}
-use prog.Atomic.{either}
-use Rattle.std.proofs.lemmas.Bool.Decides.{nat_tests}
-use Rattle.std.proofs.lemmas.List.{append-nil}
-use Rattle.atomic_table.specs.Table.{Act, Allows, Me, State, keeps, step, Valid, carried_after, stepped}
-use Rattle.atomic_table.proofs.Lists.{at_snoc, exchanged as by_exchange}
-use Rattle.snd_base.specs.declared.geometry.Geometry.{Geometry}
-use Rattle.snd_base.specs.declared.places.Cursor.{Cursor}
-use Rattle.std.proofs.lemmas.Bool.{cases_lt, false≢true}
-use Rattle.snd_base.specs.PlaceLaws.{div-lt_same}
-use Rattle.snd_base.specs.Places.{IsFrom, first_frame, first_free, lap, cursor_after}
-use Rattle.lap_word.specs.Word.{StandsFor, StandsFor-fields, count_of, lap_of, sum_of}
-use Rattle.mix_core.specs.declared.port.Entry.{Entry}
-use Rattle.mix_core.specs.declared.event.Event.TheVariants.{Add, Withdraw, Take, Publish}
-use Rattle.mix_core.specs.declared.event.Reply.TheVariants.{Late, Took, Published}
-use Rattle.mix_core.specs.declared.event.Taken.{Taken}
-use Rattle.mix_core.specs.History.{IsReply, Row, taken_words, is_taken, laid_of, next_to_take}
-use Rattle.mix_core.specs.Laid.{cursor_of, marks_after, total, value_of}
-use Rattle.mix_core.specs.declared.marks.Marks.{Marks}
-use Rattle.mix_core.specs.declared.port.Kind.{Kind}
-use Rattle.mix_core.specs.declared.port.Kind.TheVariants.{Added, Withdrawn}
-use Rattle.mix_core.specs.LegalLaws.{cursor_of-least, lap-taken}
-use Rattle.mix_core.specs.Sound.{IsNow}
+use Rattle.sum_table.specs.Prelude.{ap, arith, Bool, false, get_or, inl, inr, length, List, nat_lt, negsuc, None, Option, pos, refl, set, Some, subst, sym}
+use Rattle.sum_table.specs.Prelude.{true, ℕ, ℤ, [], ◌%◌, ◌++◌, ◌+ℤ◌, ◌+◌, ◌<◌, ◌==◌, ◌∙◌, ◌∷◌, ◌≡◌, ◌≤ℤ◌, ◌≤◌, cases_lt, false≢true, nat_tests, append-nil}
+use Rattle.sum_table.specs.Prelude.{at_snoc, exchanged as by_exchange, Act, Allows, carried_after, keeps, Me, State, step, stepped, Valid, get_elem?, none}
+use Rattle.sum_table.specs.Prelude.{some, either, Geometry, Cursor, div-lt_same, cursor_after, first_frame, first_free, IsFrom, lap, clamp_of, word_of}
+use Rattle.sum_table.specs.Prelude.{count_of, lap_of, StandsFor, StandsFor-fields, sum_of, Add, Publish, Take, Withdraw, Late, Published, Took, Taken, Marks}
+use Rattle.sum_table.specs.Prelude.{Entry, Kind, Added, Withdrawn, is_taken, IsReply, laid_of, next_to_take, Row, taken_words, cursor_of, marks_after, total}
+use Rattle.sum_table.specs.Prelude.{value_of, cursor_of-least, lap-taken, IsNow, IsNow-next, now_of, noted_set, IsPosition-last, IsPosition-more}
+use Rattle.sum_table.specs.Prelude.{last_number-more, index_of-lt, NotPast-position, NotPast-set, set_read, index_of, NotPast, rank, Track, View, AreViews}
+use Rattle.sum_table.specs.Prelude.{BeginsWith, Exact, is_tracked, IsHistory, IsKept, IsLaid, IsOwn, IsPublishedPosition, IsRing, IsView, next_at, position_at}
+use Rattle.sum_table.specs.Prelude.{the_track, all_laid, count, Finds, HoldsLast, in_row, IsLateAt, IsLateHeld, IsStep, IsSumOf, MakesLook, next_taken}
+use Rattle.sum_table.specs.Prelude.{position_load, position_store, track_gone, track_published, track_taken, unplug_store, with_entry, with_gone, with_note}
+use Rattle.sum_table.specs.Prelude.{with_position, with_published, with_taken, withdrawable_after, word_exchange, word_load, word_take}
 use Rattle.sum_table.specs.declared.view.Key.{Key}
-use Rattle.sum_table.specs.declared.view.Track.{Track}
-use Rattle.sum_table.specs.declared.view.View.{View}
-use Rattle.sum_table.specs.Exact.{IsLaid, AreViews, BeginsWith, Exact, IsHistory, IsKept, IsOwn, IsPublishedPosition, IsRing, IsView, is_tracked, next_at, position_at, the_track}
-use Rattle.sum_table.specs.Laid.{all_laid, count}
-use Rattle.sum_table.specs.Steps.{Finds, HoldsLast, IsLateAt, IsLateHeld, IsStep, IsSumOf, withdrawable_after, MakesLook, word_exchange, in_row, position_load, word_load, with_entry, with_note, with_position, position_store, word_take, next_taken, track_gone, track_published, track_taken, unplug_store, with_gone, with_published, with_taken}
-use Rattle.ring_rule.specs.Words.{NotPast, index_of, rank}
-use Rattle.ring_rule.specs.NoteLaws.{noted_set}
-use Rattle.ring_rule.specs.PositionLaws.{IsPosition-last, IsPosition-more, last_number-more}
-use Rattle.ring_rule.specs.WordLaws.{set_read, index_of-lt, NotPast-set, NotPast-position}
-use Rattle.mix_core.specs.Written.{now_of, IsNow-next}
+use Rattle.sum_table.proofs.Kept.{HeldFacts, IsHeldAt, held_facts, held_of, kept_add, kept_later, kept_withdraw}
 use Rattle.sum_table.proofs.Places.{index_places, next_word-channel}
 use Rattle.sum_table.proofs.Rings.{IsRing-put, IsRing-same, not_taken, IsRing-gone, IsRing-publish, IsRing-take, next_at-taken}
 use Rattle.sum_table.proofs.Rows.{BeginsWith-more, BeginsWith-same, history_put, history_same, inside, is_held, own_marks, step_of, history_gone, history_publish, history_take}
 use Rattle.sum_table.proofs.Sums.{SameSums-put, SameSums-set}
 use Rattle.sum_table.proofs.Views.{ByLap, Later, Later-same, by_lap, finds, rank-of, view_later, views_set, none_far}
-use Rattle.sum_table.proofs.Kept.{HeldFacts, IsHeldAt, held_facts, held_of, kept_add, kept_later, kept_withdraw}
-use Rattle.lap_word.specs.Clamp.{clamp_of}
-use Rattle.lap_word.specs.Position.{word_of}
 
 -- what the rule says of some words and views, with the player's track and the history
 pub record Holds (k : Key) (words : List ℕ) (views : List View) (at : ℕ) (t : Track) (h : List Row) : Type 0 where

@@ -1,29 +1,13 @@
 -- What a seat placed stays in order when it places one more entry, when it sees a later position, and when it is joined.
-use Rattle.std.proofs.Common.{◌≡◌, ◌⊎◌, ℕ, zero, suc, ◌+◌, ◌*◌, ◌<◌, ◌≤◌, Bool, true, false, List, [], ◌∷◌, ◌++◌, fold, map, max, ℤ, inl, inr, arith, subst, sym, refl, ap, ◌∙◌, append_assoc}
-use mathlib.Core.Option.{some, some-ne-none}
-use lib.ListN.{get_elem?}
-use Rattle.std.proofs.lemmas.Bool.{cases_Bool}
-use Rattle.std.proofs.lemmas.Bool.Decides.{nat_tests}
-use Rattle.std.proofs.lemmas.List.{append-nil}
-use Rattle.std.proofs.lemmas.List.Sums.{fold-append, fold_push}
-use Rattle.atomic_table.proofs.Lists.{at_snoc}
-use Rattle.snd_base.specs.declared.geometry.Geometry.{Geometry}
-use Rattle.snd_base.specs.declared.places.Cursor.{Cursor}
-use Rattle.snd_base.specs.Places.{IsFrom, cursor_after, first_frame, first_free, lap}
-use Rattle.mix_core.specs.declared.marks.Marks.{Marks}
-use Rattle.mix_core.specs.declared.port.Entry.{Entry}
-use Rattle.mix_core.specs.declared.port.Kind.{Kind}
-use Rattle.mix_core.specs.declared.port.Kind.TheVariants.{Added, Withdrawn}
-use Rattle.mix_core.specs.Laid.{EndsIn, is_at, marks_after, marks_by, marks_with, stand_after, standing, standing_with, without_last}
-use Rattle.mix_core.specs.MarkLaws.{Each, Each-append, Each-of, Each-right, IsBeforeCursor, IsHolding, IsHolding-add, IsHolding-last, IsHolding-withdraw, IsMarked-add, IsMarked-withdraw, behind_up, count-append, count-here, count-elsewhere, free_after, later_up_to, place_cases, standing-each, up_to_later, without_last-more}
-use Rattle.mix_core.specs.Marks.{added_at, is_before, later_of, start_marks, withdrawn_at}
-use Rattle.mix_core.specs.OwnLaws.{marks_by-more, standing-more}
-use Rattle.sum_table.specs.declared.view.View.{View}
-use Rattle.sum_table.specs.Cuts.{joined_free, joined_marks}
-use Rattle.sum_table.specs.Exact.{AreWithinMarks, IsKept, IsLaid, IsOwn}
-use Rattle.sum_table.specs.Laid.{by_member, count}
-use Rattle.sum_table.specs.Steps.{HoldsLast, withdrawable_after}
-use Rattle.ring_rule.specs.Lists.{at_append}
+use Rattle.sum_table.specs.Prelude.{ap, append_assoc, arith, Bool, false, fold, inl, inr, List, map, max, refl, subst, suc, sym, true, zero, ℕ, ℤ, [], ◌*◌}
+use Rattle.sum_table.specs.Prelude.{◌++◌, ◌+◌, ◌<◌, ◌∙◌, ◌∷◌, ◌≡◌, ◌≤◌, ◌⊎◌, cases_Bool, nat_tests, append-nil, fold-append, fold_push, at_snoc, get_elem?}
+use Rattle.sum_table.specs.Prelude.{some, some-ne-none, Geometry, Cursor, cursor_after, first_frame, first_free, IsFrom, lap, Marks, Entry, Kind, Added}
+use Rattle.sum_table.specs.Prelude.{Withdrawn, EndsIn, is_at, marks_after, marks_by, marks_with, stand_after, standing, standing_with, without_last, behind_up}
+use Rattle.sum_table.specs.Prelude.{count-append, count-elsewhere, count-here, Each, Each-append, Each-of, Each-right, free_after, IsBeforeCursor, IsHolding}
+use Rattle.sum_table.specs.Prelude.{IsHolding-add, IsHolding-last, IsHolding-withdraw, IsMarked-add, IsMarked-withdraw, later_up_to, place_cases, standing-each}
+use Rattle.sum_table.specs.Prelude.{up_to_later, without_last-more, added_at, is_before, later_of, start_marks, withdrawn_at, marks_by-more, standing-more}
+use Rattle.sum_table.specs.Prelude.{at_append, View, joined_free, joined_marks, AreWithinMarks, IsKept, IsLaid, IsOwn, by_member, count, HoldsLast}
+use Rattle.sum_table.specs.Prelude.{withdrawable_after}
 
 pub IsLaid-later : (g : Geometry) (seen later : ℕ) → seen ≤ later → (e : Entry) → IsLaid g seen e → IsLaid g later e
 IsLaid-later g seen later up e l = record { channel = l.channel; low = l.low; ahead = omega (arith, l.ahead, up); fits = l.fits }

@@ -1,14 +1,7 @@
 -- What an add that is late leaves alone: the replies to all events after it.
-use Rattle.std.proofs.Common.{ℕ, List, [], ◌∷◌, ◌++◌, sym, subst, ◌∙◌, append_assoc}
-use Rattle.std.proofs.lemmas.List.{append-nil}
-use Rattle.std.proofs.lemmas.List.Elements.{filter_map-append}
-use Rattle.std.proofs.lemmas.List.Sums.{fold_push}
-use Rattle.snd_base.specs.declared.geometry.Geometry.{Geometry}
-use Rattle.snd_base.specs.Places.{first_frame}
-use Rattle.mix_core.specs.declared.port.Entry.{Entry}
-use Rattle.mix_core.specs.declared.event.Reply.TheVariants.{Late}
-use Rattle.mix_core.specs.History.{AreReplies, IsLegal, IsReply, Row, entry_of, laid_of, late_row, position_after, position_of, taken_words, taking_of}
-use Rattle.mix_core.specs.HistoryLaws.{entry_of-late, position_after-row, taking_of-row}
+use Rattle.sum_table.specs.Prelude.{append_assoc, List, subst, sym, ℕ, [], ◌++◌, ◌∙◌, ◌∷◌, append-nil, filter_map-append, fold_push, Geometry, first_frame}
+use Rattle.sum_table.specs.Prelude.{Late, Entry, AreReplies, entry_of, IsLegal, IsReply, laid_of, late_row, position_after, position_of, Row, taken_words}
+use Rattle.sum_table.specs.Prelude.{taking_of, entry_of-late, position_after-row, taking_of-row}
 use Rattle.mix_core.specs.KeptLaws.{AreAlike, AreReplies-alike}
 
 -- a history stays what it was after an add that is late

@@ -1,31 +1,13 @@
 -- A new ring meets the rule.
-use Rattle.std.proofs.Common.{◌≡◌, ℕ, ◌+◌, ◌-◌, ◌*◌, ◌/◌, ◌<◌, ◌≤◌, false, List, [], ◌∷◌, map, length, set, pos, arith, subst, sym, refl, ap, ◌∙◌}
-use mathlib.Core.Option.{some, some-ne-none}
-use lib.ListN.{get_elem?}
-use Rattle.std.proofs.Math.ListN.{replicate}
-use Rattle.std.proofs.lemmas.Bool.Decides.{nat_tests}
-use Rattle.std.proofs.lemmas.Int.{ints}
-use Rattle.std.proofs.lemmas.List.{get_or-replicate, get_or-set_same, length-replicate, length-set}
+use Rattle.sum_table.specs.Prelude.{ap, arith, false, length, List, map, pos, refl, set, subst, sym, ℕ, [], ◌*◌, ◌+◌, ◌-◌, ◌/◌, ◌<◌, ◌∙◌, ◌∷◌, ◌≡◌, ◌≤◌}
+use Rattle.sum_table.specs.Prelude.{replicate, nat_tests, ints, get_or-replicate, get_or-set_same, length-replicate, length-set, opening, get_elem?, some}
+use Rattle.sum_table.specs.Prelude.{some-ne-none, Geometry, Cursor, first_frame, first_free, lap, word_of, StandsFor, Entry, first_frame-le, start_marks}
+use Rattle.sum_table.specs.Prelude.{start_of, IsNow, at_only, no_note, none_there, index_of-lt, index_of, words_of, View, Exact, first_track, first_view}
+use Rattle.sum_table.specs.Prelude.{IsRing, IsView, next_at, by_member}
 use Rattle.std.proofs.lemmas.Nat.{div-mul-add}
-use Rattle.atomic_table.specs.Table.{opening}
-use Rattle.snd_base.specs.declared.geometry.Geometry.{Geometry}
-use Rattle.snd_base.specs.declared.places.Cursor.{Cursor}
-use Rattle.snd_base.specs.Places.{first_frame, first_free, lap}
-use Rattle.lap_word.specs.Position.{word_of}
-use Rattle.lap_word.specs.Word.{StandsFor}
-use Rattle.mix_core.specs.LegalLaws.{first_frame-le}
-use Rattle.mix_core.specs.Sound.{IsNow}
-use Rattle.mix_core.specs.declared.port.Entry.{Entry}
 use Rattle.sum_table.specs.declared.view.Key.{Key}
-use Rattle.sum_table.specs.declared.view.View.{View}
-use Rattle.sum_table.specs.Exact.{start_marks, Exact, IsRing, IsView, first_track, first_view, next_at, start_of}
-use Rattle.sum_table.specs.Laid.{by_member}
-use Rattle.ring_rule.specs.Words.{index_of, words_of}
-use Rattle.sum_table.proofs.Kept.{kept_none}
-use Rattle.ring_rule.specs.Lists.{at_only}
-use Rattle.ring_rule.specs.NoteLaws.{no_note, none_there}
 use Rattle.sum_table.proofs.Keeps.{track_or}
-use Rattle.ring_rule.specs.WordLaws.{index_of-lt}
+use Rattle.sum_table.proofs.Kept.{kept_none}
 use Rattle.sum_table.proofs.Rings.{position-others}
 
 -- the words of a new ring

@@ -1,13 +1,7 @@
 -- Where the words of slots and channels are: after the position's word.
-use Rattle.std.proofs.Common.{◌≡◌, ℕ, ◌+◌, ◌*◌, ◌<◌, arith, ap}
-use Rattle.std.proofs.Math.Nat.{mod-lt}
-use Rattle.snd_base.specs.declared.geometry.Geometry.{Geometry}
-use Rattle.snd_base.specs.Places.{next_word}
-use Rattle.mix_core.specs.Written.{HasPlaces}
+use Rattle.sum_table.specs.Prelude.{ap, arith, ℕ, ◌*◌, ◌+◌, ◌<◌, ◌≡◌, mod-lt, Geometry, next_word, HasPlaces, index_of-lt, index_of-same, index_of, words_of}
 use Rattle.ring_rule.specs.declared.spots.Spot.{Spot}
 use Rattle.ring_rule.specs.Spots.{IsSpot}
-use Rattle.ring_rule.specs.Words.{index_of, words_of}
-use Rattle.ring_rule.specs.WordLaws.{index_of-lt, index_of-same}
 
 pub index_places : (g : Geometry) → HasPlaces g (index_of g) (words_of g)
 index_places g = record { below = index_of-lt g; apart = index_of-same g; by_slot = λ f k c same. ap (λ (s : ℕ). s * g.channels + c + 1) same }

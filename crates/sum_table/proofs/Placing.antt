@@ -1,39 +1,25 @@
 -- A placement or withdrawal, which is several steps: how it goes on, and what it is at its end.
-use Rattle.std.proofs.Common.{◌≡◌, ◌≢◌, Some, ℤ, ℕ, zero, suc, ◌+◌, ◌-◌, ◌*◌, ◌^◌, ◌<◌, ◌≤◌, Bool, List, [], ◌∷◌, ◌++◌, length, map, replicate, nat_lt, inl, inr, arith, subst, sym, refl, ap, ◌∙◌, append_assoc, ◌||◌, All, true, false, None, Result, Ok, Err}
-use Rattle.std.proofs.lemmas.Bool.{cases_lt, false≢true}
-use Rattle.std.proofs.lemmas.List.{append-nil, length-append, map-append}
-use Rattle.snd_base.specs.declared.geometry.Geometry.{Geometry}
-use Rattle.snd_base.specs.Places.{IsFrom, first_frame, lap}
-use Rattle.lap_word.specs.Word.{StandsFor-of, count_of, lap_of, sum_of}
+use Rattle.sum_table.specs.Prelude.{All, ap, append_assoc, arith, Bool, Err, false, inl, inr, length, List, map, nat_lt, None, Ok, refl, Result, Some, subst}
+use Rattle.sum_table.specs.Prelude.{suc, sym, true, zero, ℕ, ℤ, [], ◌*◌, ◌++◌, ◌+◌, ◌-◌, ◌<◌, ◌^◌, ◌||◌, ◌∙◌, ◌∷◌, ◌≡◌, ◌≢◌, ◌≤◌, cases_lt, false≢true}
+use Rattle.sum_table.specs.Prelude.{append-nil, length-append, map-append, Geometry, first_frame, IsFrom, lap, count_of, lap_of, StandsFor-of, sum_of, Go, Stop}
+use Rattle.sum_table.specs.Prelude.{Again, Exchange, Look, Marks, Entry, Kind, Added, Withdrawn, Position, AsksCompose, placement_asks, IsLegal, IsReply}
+use Rattle.sum_table.specs.Prelude.{late_row, Row, an_add, EndsIn, marks_after, standing, IsAskNumber, load_of, Loads, marks_if, OnLate, OnWhole, PortView}
+use Rattle.sum_table.specs.Prelude.{index_of, rank, MixSeat, View, BeginsWith, by_member, entry_by, HasLaid, HasLocated, HasLost, HasNoted, IsLaterSeat}
+use Rattle.sum_table.specs.Prelude.{IsLaterSeat-joined, IsLaterSeat-same, IsTurned, LaysCounted, MakesIn, MakesLate, MayLay, noted_word, NotesRise-same}
+use Rattle.sum_table.specs.Prelude.{or_false, pass_count, seat_view, SeatFinds, SeatLaid, SeatLaid-composes, SeatLays, SeatLoaded, SeatLoaded-composes, view_of}
+use Rattle.sum_table.specs.Prelude.{HoldsLast, in_row, IsStep, Makes, MayStand, sighting, Tells}
+use Rattle.std.proofs.Common.{replicate}
+use Rattle.std.specs.Result.{IsErr}
+use Rattle.snd_base.specs.declared.errors.PcmError.{PcmError}
 use Rattle.mix_core.specs.declared.gate.Pass.{Pass}
-use Rattle.mix_core.specs.declared.gate.Pass.TheVariants.{Go, Stop}
 use Rattle.mix_core.specs.declared.gate.StepKind.{StepKind}
-use Rattle.mix_core.specs.declared.gate.StepKind.TheVariants.{Look, Exchange, Again}
-use Rattle.mix_core.specs.declared.marks.Marks.{Marks}
 use Rattle.mix_core.specs.declared.port.Ended.{Ended}
 use Rattle.mix_core.specs.declared.port.Ended.TheVariants.{Whole, Late, Stopped}
-use Rattle.mix_core.specs.declared.port.Entry.{Entry}
-use Rattle.mix_core.specs.declared.port.Kind.{Kind}
-use Rattle.mix_core.specs.declared.port.Kind.TheVariants.{Added, Withdrawn}
-use Rattle.mix_core.specs.Gate.{AsksCompose, placement_asks}
-use Rattle.mix_core.specs.History.{IsLegal, IsReply, Row, late_row}
-use Rattle.mix_core.specs.Laid.{marks_after, standing, EndsIn, an_add}
-use Rattle.mix_core.specs.Port.{PortView, Loads, load_of, IsAskNumber, OnLate, OnWhole, marks_if}
-use Rattle.sum_table.specs.declared.seats.mix.MixSeat.{MixSeat}
 use Rattle.sum_table.specs.declared.view.Key.{Key}
-use Rattle.sum_table.specs.declared.view.View.{View}
-use Rattle.sum_table.specs.Exact.{BeginsWith}
-use Rattle.sum_table.specs.Laid.{by_member}
-use Rattle.sum_table.specs.Seats.{IsLaterSeat, IsLaterSeat-joined, IsLaterSeat-same, HasLaid, HasLost, HasNoted, LaysCounted, MakesIn, MakesLate, MayLay, SeatLaid, SeatLays, SeatLoaded, SeatLoaded-composes, entry_by, seat_view, noted_word, view_of, HasLocated, SeatLaid-composes, IsTurned, NotesRise-same, SeatFinds, or_false, pass_count}
-use Rattle.sum_table.specs.Steps.{HoldsLast, IsStep, Makes, MayStand, Tells, in_row, sighting}
-use Rattle.ring_rule.specs.Words.{index_of, rank}
 use Rattle.sum_table.proofs.Rows.{BeginsWith-same}
 use Rattle.sum_table.proofs.Seated.{holds_facts, holds_of, lay_facts}
 use Rattle.sum_table.proofs.Views.{rank-of}
-use Rattle.std.specs.Result.{IsErr}
-use Rattle.snd_base.specs.declared.errors.PcmError.{PcmError}
 use Rattle.mix_core.specs.declared.gate.StepKind.TheVariants as kind
-use Rattle.mix_core.specs.declared.port.Position.{Position}
 
 -- a step, and those before it
 step_since : (u v w : View) (by members : ℕ) (between rows : List Row) → v.key ≡ u.key → (begins : BeginsWith v.history u.history)

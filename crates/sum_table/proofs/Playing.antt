@@ -1,35 +1,14 @@
 -- What the player's steps may do and do, said of the fields of its seat.
-use Rattle.std.proofs.Common.{◌≡◌, ◌≢◌, ℕ, ◌+◌, ◌<◌, ◌≤◌, Bool, true, Some, List, [], ◌∷◌, ℤ, pos, arith, subst, sym, ap, ◌∙◌}
-use mathlib.Core.Option.{none}
-use Rattle.std.proofs.lemmas.Bool.Decides.{nat_tests}
-use Rattle.atomic_table.specs.Table.{Allows, Me, step}
-use Rattle.snd_base.specs.declared.geometry.Geometry.{Geometry}
-use Rattle.snd_base.specs.declared.places.Cursor.{Cursor}
-use Rattle.snd_base.specs.PlaceLaws.{suc-le-end_frame}
-use Rattle.snd_base.specs.Places.{IsWithin, cursor_after, end_frame, first_frame, lap}
-use Rattle.lap_word.specs.Clamp.{clamp_of}
-use Rattle.lap_word.specs.Position.{word_of}
-use Rattle.lap_word.specs.Word.{StandsFor, sum_of}
-use Rattle.mix_core.specs.declared.event.Event.TheVariants.{Take}
-use Rattle.mix_core.specs.declared.event.Reply.TheVariants.{Took}
-use Rattle.mix_core.specs.declared.event.Taken.{Taken}
-use Rattle.mix_core.specs.declared.port.Entry.{Entry}
-use Rattle.mix_core.specs.History.{Row, laid_of}
-use Rattle.mix_core.specs.Laid.{total}
-use Rattle.sum_table.specs.declared.seats.player.PlayerSeat.{PlayerSeat}
+use Rattle.sum_table.specs.Prelude.{ap, arith, Bool, List, pos, Some, subst, sym, true, ℕ, ℤ, [], ◌+◌, ◌<◌, ◌∙◌, ◌∷◌, ◌≡◌, ◌≢◌, ◌≤◌, nat_tests, Allows, Me}
+use Rattle.sum_table.specs.Prelude.{step, none, Geometry, Cursor, suc-le-end_frame, cursor_after, end_frame, first_frame, IsWithin, lap, clamp_of, word_of}
+use Rattle.sum_table.specs.Prelude.{StandsFor, sum_of, Take, Took, Taken, Entry, laid_of, Row, total, has_all-published, last_number-more, lap-le, index_of}
+use Rattle.sum_table.specs.Prelude.{PlayerSeat, Track, View, BeginsWith, Exact, next_at, position_at, the_track, IsPlayer, HasTaken, IsTurnedPlayer}
+use Rattle.sum_table.specs.Prelude.{player_view, track_of, Makes, next_taken, position_store, track_published, track_taken, unplug_store, with_gone}
+use Rattle.sum_table.specs.Prelude.{with_published, with_taken, word_take}
 use Rattle.sum_table.specs.declared.view.Key.{Key}
-use Rattle.sum_table.specs.declared.view.Track.{Track}
-use Rattle.sum_table.specs.declared.view.View.{View}
-use Rattle.sum_table.specs.Exact.{BeginsWith, Exact, next_at, position_at, the_track}
-use Rattle.sum_table.specs.Known.{IsPlayer}
-use Rattle.sum_table.specs.Players.{HasTaken, IsTurnedPlayer, player_view, track_of}
-use Rattle.sum_table.specs.Steps.{Makes, position_store, word_take, next_taken, track_published, track_taken, unplug_store, with_gone, with_published, with_taken}
-use Rattle.ring_rule.specs.Words.{index_of}
-use Rattle.ring_rule.specs.PositionLaws.{has_all-published, last_number-more}
-use Rattle.ring_rule.specs.WordLaws.{lap-le}
+use Rattle.sum_table.proofs.Keeps.{publishes, takes, unplugs}
 use Rattle.sum_table.proofs.Rings.{next_at-taken}
 use Rattle.sum_table.proofs.Seated.{step_begins}
-use Rattle.sum_table.proofs.Keeps.{publishes, takes, unplugs}
 
 -- the player's track is the one that its view has
 track_is : (v : View) (t : Track) → v.track ≡ Some t → the_track v.track ≡ t

@@ -1,32 +1,12 @@
 -- The words, the entries and the player's track agree after each kind of step.
-use Rattle.std.proofs.Common.{◌≡◌, ℕ, Bool, ◌+◌, ◌*◌, ◌<◌, ◌≤◌, true, false, ◌==◌, ◌&&◌, ◌||◌, List, [], ◌∷◌, ◌++◌, length, get_or, set, ℤ, pos, negsuc, ◌+ℤ◌, ◌≤ℤ◌, inl, inr, arith, subst, sym, refl, ap, ◌∙◌, nat_lt}
+use Rattle.sum_table.specs.Prelude.{ap, arith, Bool, false, get_or, inl, inr, length, List, nat_lt, negsuc, pos, refl, set, subst, sym, true, ℕ, ℤ, [], ◌&&◌}
+use Rattle.sum_table.specs.Prelude.{◌*◌, ◌++◌, ◌+ℤ◌, ◌+◌, ◌<◌, ◌==◌, ◌||◌, ◌∙◌, ◌∷◌, ◌≡◌, ◌≤ℤ◌, ◌≤◌, add-div_right, nat_tests, ints, get_or-set_other}
+use Rattle.sum_table.specs.Prelude.{get_or-set_same, length-append, length-set, All-push, Geometry, Cursor, nat_lt-behind, next_word-suc, suc-le-end_frame}
+use Rattle.sum_table.specs.Prelude.{cursor_after, end_frame, first_frame, first_free, lap, next_word, clamp_of, word_of, StandsFor, Taken, Entry, AreExact}
+use Rattle.sum_table.specs.Prelude.{is_taken, at, total, value_of, place_cases, IsNow, words-taken, words-written, last_number-more, Rising-more, index_of}
+use Rattle.sum_table.specs.Prelude.{words_of, Track, IsRing, next_at, position_at, count, SameSums, next_taken, track_gone, track_published, track_taken}
 use Rattle.std.proofs.Math.Bool.{or_comm}
-use Rattle.std.proofs.Math.Nat.{add-div_right}
-use Rattle.std.proofs.lemmas.Bool.Decides.{nat_tests}
-use Rattle.std.proofs.lemmas.Int.{ints}
-use Rattle.std.proofs.lemmas.List.{get_or-set_same, get_or-set_other, length-append, length-set}
-use Rattle.std.proofs.lemmas.List.Elements.{All-push}
-use Rattle.snd_base.specs.declared.geometry.Geometry.{Geometry}
-use Rattle.snd_base.specs.declared.places.Cursor.{Cursor}
-use Rattle.snd_base.specs.PlaceLaws.{nat_lt-behind, next_word-suc, suc-le-end_frame}
-use Rattle.snd_base.specs.Places.{cursor_after, end_frame, first_frame, first_free, lap, next_word}
-use Rattle.lap_word.specs.Clamp.{clamp_of}
-use Rattle.lap_word.specs.Position.{word_of}
-use Rattle.lap_word.specs.Word.{StandsFor}
-use Rattle.mix_core.specs.declared.port.Entry.{Entry}
-use Rattle.mix_core.specs.declared.event.Taken.{Taken}
-use Rattle.mix_core.specs.History.{AreExact, is_taken}
-use Rattle.mix_core.specs.Laid.{at, total, value_of}
-use Rattle.mix_core.specs.MarkLaws.{place_cases}
 use Rattle.mix_core.specs.MoreLaws.{AreInOrder-more, at-more_elsewhere, at-more_here, is_taken-more, is_taken-none, total-more_elsewhere, total-more_here}
-use Rattle.mix_core.specs.Sound.{IsNow}
-use Rattle.mix_core.specs.Written.{words-taken, words-written}
-use Rattle.sum_table.specs.declared.view.Track.{Track}
-use Rattle.sum_table.specs.Exact.{IsRing, next_at, position_at}
-use Rattle.sum_table.specs.Laid.{SameSums, count}
-use Rattle.sum_table.specs.Steps.{next_taken, track_gone, track_published, track_taken}
-use Rattle.ring_rule.specs.Words.{index_of, words_of}
-use Rattle.ring_rule.specs.PositionLaws.{Rising-more, last_number-more}
 use Rattle.ring_rule.specs.Positions.{Rising, last_position}
 use Rattle.sum_table.proofs.Places.{index_places, next_word-channel}
 

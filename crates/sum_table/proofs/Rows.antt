@@ -1,33 +1,14 @@
 -- The ring's history: how it goes on at each kind of step, and whose step that is.
-use Rattle.std.proofs.Common.{◌≡◌, ◌≢◌, ℕ, zero, suc, ◌+◌, ◌<◌, ◌≤◌, false, Some, List, [], ◌∷◌, ◌++◌, map, length, set, ℤ, refl, sym, subst, ap, ◌∙◌, inl, inr, arith, append_assoc}
-use mathlib.Core.Option.{some, some-ne-none}
-use lib.ListN.{get_elem?}
-use Rattle.std.proofs.lemmas.List.{append-nil, length-set, map-append}
-use Rattle.std.proofs.lemmas.List.Sums.{fold_push}
-use Rattle.atomic_table.proofs.Lists.{at_set, set_here}
-use Rattle.snd_base.specs.declared.geometry.Geometry.{Geometry}
-use Rattle.snd_base.specs.declared.places.Cursor.{Cursor}
-use Rattle.snd_base.specs.Places.{IsFrom, first_frame, lap}
-use Rattle.lap_word.specs.Clamp.{clamp_of}
-use Rattle.mix_core.specs.declared.port.Entry.{Entry}
-use Rattle.mix_core.specs.declared.event.Taken.{Taken}
-use Rattle.mix_core.specs.declared.event.Event.TheVariants.{Take, Publish}
-use Rattle.mix_core.specs.declared.event.Reply.TheVariants.{In, Took, Published}
-use Rattle.mix_core.specs.History.{IsHeld, IsInside, IsLegal, IsReply, IsSample, Row, laid_of, next_to_take, position_after, position_of, taken_words}
-use Rattle.std.proofs.lemmas.Int.{ints}
-use Rattle.mix_core.specs.HistoryLaws.{position_after-row, total-append, laid_of-append_rows, laid_of-append_published, laid_of-append_took, taken_words-append_published, taken_words-append_rows, taken_words-append_took}
-use Rattle.mix_core.specs.declared.marks.Marks.{Marks}
-use Rattle.mix_core.specs.Laid.{last_entry, marks_by, marks_of, standing, standing_of, total, without_last}
-use Rattle.mix_core.specs.MarkLaws.{IsHolding, IsHolding-last, count-append}
-use Rattle.mix_core.specs.OwnLaws.{last_entry-more, own-more, own-more_other}
-use Rattle.mix_core.specs.LegalLaws.{IsLegal-more}
-use Rattle.sum_table.specs.declared.view.Track.{Track}
-use Rattle.sum_table.specs.declared.view.View.{View}
-use Rattle.sum_table.specs.Exact.{BeginsWith, IsHistory, IsKept, IsOwn, next_at, position_at}
-use Rattle.sum_table.specs.Laid.{SameSums, all_laid, by_member, own_entries}
-use Rattle.sum_table.specs.Steps.{IsStep, in_row, next_taken, track_gone, track_published, track_taken}
+use Rattle.sum_table.specs.Prelude.{ap, append_assoc, arith, false, inl, inr, length, List, map, refl, set, Some, subst, suc, sym, zero, ℕ, ℤ, [], ◌++◌, ◌+◌}
+use Rattle.sum_table.specs.Prelude.{◌<◌, ◌∙◌, ◌∷◌, ◌≡◌, ◌≢◌, ◌≤◌, ints, append-nil, length-set, map-append, fold_push, at_set, set_here, get_elem?, some}
+use Rattle.sum_table.specs.Prelude.{some-ne-none, Geometry, Cursor, first_frame, IsFrom, lap, clamp_of, Publish, Take, In, Published, Took, Taken, Marks, Entry}
+use Rattle.sum_table.specs.Prelude.{IsHeld, IsInside, IsLegal, IsReply, IsSample, laid_of, next_to_take, position_after, position_of, Row, taken_words}
+use Rattle.sum_table.specs.Prelude.{laid_of-append_published, laid_of-append_rows, laid_of-append_took, position_after-row, taken_words-append_published}
+use Rattle.sum_table.specs.Prelude.{taken_words-append_rows, taken_words-append_took, total-append, last_entry, marks_by, marks_of, standing, standing_of}
+use Rattle.sum_table.specs.Prelude.{total, without_last, IsLegal-more, count-append, IsHolding, IsHolding-last, last_entry-more, own-more, own-more_other}
+use Rattle.sum_table.specs.Prelude.{last_number-more, Track, View, BeginsWith, IsHistory, IsKept, IsOwn, next_at, position_at, all_laid, by_member, own_entries}
+use Rattle.sum_table.specs.Prelude.{SameSums, in_row, IsStep, next_taken, track_gone, track_published, track_taken}
 use Rattle.sum_table.proofs.Kept.{HeldFacts, IsHeldAt, held_facts, marks_by-member, standing-member}
-use Rattle.ring_rule.specs.PositionLaws.{last_number-more}
 use Rattle.sum_table.proofs.Sums.{SameSums-by_member, SameSums-joined, SameSums-put, SameSums-set}
 
 pub within : {A : Type 0} (l : List A) (i : ℕ) (a : A) → get_elem? l i ≡ some a → i < length l

@@ -1,44 +1,20 @@
 -- What a seat's steps may do and do, said of the seat's fields.
-use Rattle.std.proofs.Common.{true, ◌≡◌, ◌≢◌, ℕ, ◌+◌, ◌<◌, ◌≤◌, ◌==◌, false, Option, None, Some, IfSome, suc, List, [], ◌∷◌, ◌++◌, length, get_or, set, ℤ, pos, negsuc, ◌+ℤ◌, ◌≤ℤ◌, inl, inr, arith, subst, sym, refl, ap, ◌∙◌, to_z, of_z, append_assoc}
-use mathlib.Core.Option.{some, none}
-use lib.ListN.{get_elem?}
-use prog.Atomic.{either}
-use Rattle.std.proofs.lemmas.Int.{ints, to_z-of_z}
-use mir.Syntax.{w16}
-use mir.Val.{SFits}
-use Rattle.std.proofs.lemmas.List.{get_or-set_other, get_or-set_same, length-set}
-use Rattle.std.proofs.lemmas.Bool.{cases_eq}
+use Rattle.sum_table.specs.Prelude.{ap, append_assoc, arith, false, get_or, IfSome, inl, inr, length, List, negsuc, None, of_z, Option, pos, refl, set, Some}
+use Rattle.sum_table.specs.Prelude.{subst, suc, sym, to_z, true, ℕ, ℤ, [], ◌++◌, ◌+ℤ◌, ◌+◌, ◌<◌, ◌==◌, ◌∙◌, ◌∷◌, ◌≡◌, ◌≢◌, ◌≤ℤ◌, ◌≤◌, cases_eq, nat_tests, ints}
+use Rattle.sum_table.specs.Prelude.{to_z-of_z, get_or-set_other, get_or-set_same, length-set, Allows, Me, step, get_elem?, none, some, w16, SFits, either}
+use Rattle.sum_table.specs.Prelude.{Geometry, suc-le-end_frame, end_frame, first_frame, first_free, IsFrom, IsWithin, lap, gone_in, position_in, word_of-fields}
+use Rattle.sum_table.specs.Prelude.{count_of, lap_of, StandsFor, sum_of, Marks, Entry, Kind, Added, Withdrawn, Position, Row, an_add, EndsIn, marks_after}
+use Rattle.sum_table.specs.Prelude.{marks_with, signed_sample, standing, added_at, withdrawn_at, noted_set, position_fits, index_of-lt, index_of, NotPast}
+use Rattle.sum_table.specs.Prelude.{words_of, MixSeat, View, BeginsWith, Exact, IsLaid, greater, IsKnown, IsNoted, IsReach, last_frame, entry_by, HasLaid}
+use Rattle.sum_table.specs.Prelude.{HasLocated, HasLost, HasNoted, IsLaterSeat, IsRingSpot, MayLay, NotesRise, NotesRise-same, view_of, Finds, HoldsLast}
+use Rattle.sum_table.specs.Prelude.{in_row, IsStep, IsSumOf, IsWord, Lays, Makes, MakesLook, Notes, position_load, with_entry, with_note, with_position}
+use Rattle.sum_table.specs.Prelude.{word_exchange, word_load}
 use Rattle.atomic_table.specs.Seated.{TableId}
-use Rattle.atomic_table.specs.Table.{Allows, Me, step}
-use Rattle.snd_base.specs.declared.geometry.Geometry.{Geometry}
-use Rattle.snd_base.specs.PlaceLaws.{suc-le-end_frame}
-use Rattle.snd_base.specs.Places.{IsFrom, IsWithin, end_frame, first_frame, first_free, lap}
-use Rattle.lap_word.specs.Position.{gone_in, position_in, word_of-fields}
-use Rattle.lap_word.specs.Word.{StandsFor, count_of, lap_of, sum_of}
-use Rattle.mix_core.specs.declared.marks.Marks.{Marks}
-use Rattle.mix_core.specs.declared.port.Entry.{Entry}
-use Rattle.mix_core.specs.declared.port.Kind.{Kind}
-use Rattle.mix_core.specs.declared.port.Position.{Position}
-use Rattle.mix_core.specs.declared.port.Kind.TheVariants.{Added, Withdrawn}
-use Rattle.mix_core.specs.Laid.{EndsIn, an_add, marks_with, marks_after, signed_sample, standing}
-use Rattle.mix_core.specs.Marks.{added_at, withdrawn_at}
-use Rattle.mix_core.specs.History.{Row}
-use Rattle.sum_table.specs.declared.seats.mix.MixSeat.{MixSeat}
 use Rattle.sum_table.specs.declared.seats.mix.RingSpot.{RingSpot}
 use Rattle.sum_table.specs.declared.view.Key.{Key}
-use Rattle.sum_table.specs.declared.view.View.{View}
-use Rattle.sum_table.specs.Exact.{BeginsWith, Exact, IsLaid}
-use Rattle.sum_table.specs.Known.{IsKnown, IsReach, IsNoted, greater, last_frame}
-use Rattle.sum_table.specs.Seats.{IsLaterSeat, HasLaid, HasLocated, HasLost, HasNoted, IsRingSpot, MayLay, NotesRise, NotesRise-same, entry_by, view_of}
-use Rattle.sum_table.specs.Steps.{Finds, HoldsLast, IsStep, IsSumOf, IsWord, Lays, Makes, MakesLook, Notes, word_exchange, in_row, position_load, word_load, with_entry, with_note, with_position}
-use Rattle.ring_rule.specs.Words.{NotPast, index_of, words_of}
-use Rattle.sum_table.proofs.Keeps.{MayPut, exchanges, locates, looks, may_put}
 use Rattle.sum_table.proofs.Highs.{IsReach-added, IsReach-withdrawn, last_frame-has}
+use Rattle.sum_table.proofs.Keeps.{MayPut, exchanges, locates, looks, may_put}
 use Rattle.sum_table.proofs.Kept.{IsLaid-later, held_each, held_laid, held_of, laid_more}
-use Rattle.ring_rule.specs.NoteLaws.{noted_set}
-use Rattle.std.proofs.lemmas.Bool.Decides.{nat_tests}
-use Rattle.ring_rule.specs.PositionLaws.{position_fits}
-use Rattle.ring_rule.specs.WordLaws.{index_of-lt}
 
 -- the steps at the ring's key, which is the view's
 pub locates_at : (k : Key) (slots id : ℕ) (m : Me Entry View) → m.0.key ≡ k → m.0.ended ≡ false

@@ -1,16 +1,8 @@
 -- Counts, sums and places of all views together, when one view changes or one more comes.
-use Rattle.std.proofs.Common.{◌≡◌, inl, inr, ℕ, zero, suc, ◌+◌, ◌*◌, ◌≤◌, List, [], ◌∷◌, ◌++◌, set, ◌+ℤ◌, refl, sym, subst, ap, ◌∙◌, arith, append_assoc}
-use mathlib.Core.Option.{some, some-injective, some-ne-none}
-use lib.ListN.{get_elem?}
-use Rattle.std.proofs.lemmas.Bool.{cases_Bool}
-use Rattle.std.proofs.lemmas.Int.{ints}
-use Rattle.std.proofs.lemmas.List.{append-nil}
-use Rattle.mix_core.specs.declared.port.Entry.{Entry}
-use Rattle.mix_core.specs.HistoryLaws.{total-append}
+use Rattle.sum_table.specs.Prelude.{ap, append_assoc, arith, inl, inr, List, refl, set, subst, suc, sym, zero, ℕ, [], ◌*◌, ◌++◌, ◌+ℤ◌, ◌+◌, ◌∙◌, ◌∷◌, ◌≡◌, ◌≤◌}
+use Rattle.sum_table.specs.Prelude.{cases_Bool, ints, append-nil, get_elem?, some, some-injective, some-ne-none, Entry, total-append, is_at, total, View}
+use Rattle.sum_table.specs.Prelude.{all_laid, by_member, count, SameSums, total_places}
 pub use Rattle.mix_core.specs.MarkLaws.{count-append}
-use Rattle.mix_core.specs.Laid.{is_at, total}
-use Rattle.sum_table.specs.declared.view.View.{View}
-use Rattle.sum_table.specs.Laid.{SameSums, all_laid, by_member, count, total_places}
 
 -- one view changes
 pub count_set : (views : List View) (id : ℕ) (v w : View) (f c : ℕ) → get_elem? views id ≡ some v

@@ -1,29 +1,11 @@
 -- What the seats know stays so at each kind of step, and what a word that is found shows a seat.
-use Rattle.std.proofs.Common.{◌≡◌, ◌⊎◌, ℕ, suc, ◌+◌, ◌*◌, ◌%◌, ◌<◌, ◌≤◌, true, false, Some, List, [], ◌∷◌, get_or, set, ℤ, inl, inr, arith, subst, sym, refl, ap, ◌∙◌}
-use mathlib.Core.Option.{some}
-use lib.ListN.{get_elem?}
-use Rattle.std.proofs.lemmas.Bool.{cases_lt}
-use Rattle.std.proofs.lemmas.Bool.Decides.{nat_tests}
-use Rattle.std.proofs.lemmas.Int.{ints}
-use Rattle.atomic_table.proofs.Lists.{at_set}
-use Rattle.snd_base.specs.declared.geometry.Geometry.{Geometry}
-use Rattle.snd_base.specs.declared.places.Cursor.{Cursor}
-use Rattle.snd_base.specs.PlaceLaws.{div-lt_same, mod-same}
-use Rattle.snd_base.specs.Places.{first_free, lap}
-use Rattle.lap_word.specs.Word.{StandsFor, StandsFor-fields, count_of, lap_of, sum_of}
-use Rattle.mix_core.specs.declared.port.Entry.{Entry}
-use Rattle.mix_core.specs.History.{Row}
-use Rattle.mix_core.specs.Laid.{is_at, total}
-use Rattle.mix_core.specs.Sound.{IsNow}
+use Rattle.sum_table.specs.Prelude.{ap, arith, false, get_or, inl, inr, List, refl, set, Some, subst, suc, sym, true, ℕ, ℤ, [], ◌%◌, ◌*◌, ◌+◌, ◌<◌, ◌∙◌, ◌∷◌}
+use Rattle.sum_table.specs.Prelude.{◌≡◌, ◌≤◌, ◌⊎◌, cases_lt, nat_tests, ints, at_set, get_elem?, some, Geometry, Cursor, div-lt_same, mod-same, first_free, lap}
+use Rattle.sum_table.specs.Prelude.{count_of, lap_of, StandsFor, StandsFor-fields, sum_of, Entry, Row, is_at, total, IsNow, now_of, index_of, NotPast, rank}
+use Rattle.sum_table.specs.Prelude.{Track, View, AreViews, BeginsWith, IsPublishedPosition, IsRing, IsView, next_at, position_at, all_laid, count, total_places}
+use Rattle.sum_table.specs.Prelude.{Finds, IsWord, Tells}
 use Rattle.sum_table.specs.declared.view.Key.{Key}
-use Rattle.sum_table.specs.declared.view.Track.{Track}
-use Rattle.sum_table.specs.declared.view.View.{View}
-use Rattle.sum_table.specs.Exact.{AreViews, BeginsWith, IsPublishedPosition, IsRing, IsView, next_at, position_at}
-use Rattle.sum_table.specs.Laid.{all_laid, count, total_places}
-use Rattle.sum_table.specs.Steps.{Finds, IsWord, Tells}
-use Rattle.ring_rule.specs.Words.{NotPast, index_of, rank}
 use Rattle.sum_table.proofs.Kept.{held_of, held_once, held_place}
-use Rattle.mix_core.specs.Written.{now_of}
 use Rattle.sum_table.proofs.Places.{index_places}
 use Rattle.sum_table.proofs.Sums.{count-append, count_few, count_room, places_set}
 

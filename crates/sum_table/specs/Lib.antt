@@ -5,6 +5,7 @@ pub mod Joins
 pub mod Known
 pub mod Laid
 pub mod Players
+pub mod Prelude
 pub mod Rings
 pub mod Seats
 pub mod Steps

@@ -1,10 +1,6 @@
 -- A list is cut at the first element that passes a test.
-use Rattle.std.proofs.Common.{◌≡◌, ℕ, ◌+◌, ◌-◌, ◌<◌, ◌≤◌, Bool, List, [], ◌∷◌, length, take, drop, ap, ◌∙◌, arith, Some, None}
-use Rattle.std.specs.List.{slice_split, position, position_or_len}
-use Rattle.std.proofs.lemmas.Bool.Decides.{nat_tests}
-use Rattle.std.proofs.lemmas.List.{take_all, length-drop}
-use Rattle.std.proofs.lemmas.List.Splits.{slice_split_first, slice_split_none}
-use Rattle.std.proofs.lemmas.List.Sums.{fails_before_first}
+use Rattle.text_words.specs.Prelude.{ap, arith, Bool, drop, length, List, None, Some, take, ℕ, [], ◌+◌, ◌-◌, ◌<◌, ◌∙◌, ◌∷◌, ◌≡◌, ◌≤◌, nat_tests, length-drop}
+use Rattle.text_words.specs.Prelude.{take_all, slice_split_first, slice_split_none, fails_before_first, position, position_or_len, slice_split}
 use Rattle.std.proofs.lemmas.Option.{cond_some}
 
 -- what follows a place

@@ -1,14 +1,10 @@
 -- The decimal text of a number is a word, a numeral of this number, and the only one without leading zeros.
-use Rattle.std.proofs.Common.{◌≡◌, ◌<◌, ◌≤◌, ◌^◌, ◌==◌, ◌&&◌, ℕ, zero, suc, Bool, true, false, not, cond, List, [], ◌∷◌, length, get_or, nat_le, Option, Some, None, refl, ap, sym, ◌∙◌, arith}
-use Rattle.std.specs.Char.{is_ascii_digit}
-use Rattle.std.specs.Fmt.{decimal}
-use Rattle.std.specs.Str.{all_ascii_digits, bytes_eq}
-use Rattle.std.specs.Str.Parse.{digits_value}
-use Rattle.std.proofs.lemmas.Bool.{false≢true}
-use Rattle.std.proofs.lemmas.Bool.Decides.{Decides-eqb, nat_tests, same_from_decides}
+use Rattle.text_words.specs.Prelude.{ap, arith, Bool, cond, false, get_or, length, List, nat_le, None, not, Option, refl, Some, suc, sym, true, zero, ℕ, []}
+use Rattle.text_words.specs.Prelude.{◌&&◌, ◌<◌, ◌==◌, ◌^◌, ◌∙◌, ◌∷◌, ◌≡◌, ◌≤◌, false≢true, Decides-eqb, nat_tests, same_from_decides, is_ascii_digit}
+use Rattle.text_words.specs.Prelude.{all_ascii_digits, bytes_eq, digits_value, decimal_of, is_decimal, is_number, lacks_leading_zero, number_of_word, within}
 use Rattle.std.proofs.lemmas.Fmt.{decimal-digits_value, decimal_digit, decimal_nonempty, digits_decimal, digits_value-decimal, first_decimal, length-decimal-le}
 use Rattle.std.proofs.lemmas.Slice.Eq.{bytes_eq-Decides}
-use Rattle.text_words.specs.Word.{decimal_of, is_decimal, is_number, lacks_leading_zero, number_of_word, within}
+use Rattle.std.specs.Fmt.{decimal}
 use Rattle.text_words.proofs.Digits.{all_digits, own}
 use Rattle.text_words.proofs.PlainLines.{is_plain_byte, is_plain_word}
 use Rattle.text_words.proofs.Tests.{and_true, both, weaker}

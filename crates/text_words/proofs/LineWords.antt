@@ -1,12 +1,8 @@
 -- The first line of a text and the first word of a line, taken off.
-use Rattle.std.proofs.Common.{◌≡◌, ◌≢◌, ℕ, ◌+◌, ◌-◌, ◌<◌, Bool, true, false, not, cond, List, [], ◌∷◌, length, take, drop, get_or, filter, refl, ap, sym, ◌∙◌, arith, Some, None, suc, one-add, add-zero}
-use Rattle.std.specs.List.{slice_split, position, position_or_len}
-use Rattle.std.proofs.lemmas.Bool.{false≢true}
-use Rattle.std.proofs.lemmas.List.{drop_all, length-take, get_or-drop}
-use Rattle.std.proofs.lemmas.List.Splits.{slice_split_first, slice_split_none, slice_split-cons_yes}
-use Rattle.std.proofs.lemmas.List.Sums.{fails_before_first, passes_at_first}
-use Rattle.text_words.specs.Word.{is_feed}
-use Rattle.text_words.specs.Lexing.{is_blank, is_of_word, is_word, words_between, words_in, put_line, numbered_lines, lines_from, first_and_rest}
+use Rattle.text_words.specs.Prelude.{add-zero, ap, arith, Bool, cond, drop, false, filter, get_or, length, List, None, not, one-add, refl, Some, suc, sym, take}
+use Rattle.text_words.specs.Prelude.{true, ℕ, [], ◌+◌, ◌-◌, ◌<◌, ◌∙◌, ◌∷◌, ◌≡◌, ◌≢◌, false≢true, drop_all, get_or-drop, length-take, slice_split-cons_yes}
+use Rattle.text_words.specs.Prelude.{slice_split_first, slice_split_none, fails_before_first, passes_at_first, position, position_or_len, slice_split}
+use Rattle.text_words.specs.Prelude.{first_and_rest, is_blank, is_of_word, is_word, lines_from, numbered_lines, put_line, words_between, words_in, is_feed}
 use Rattle.text_words.proofs.Cuts.{position_end, position_missing, position_place, take-drop}
 
 -- the first line ends at the first line feed

@@ -1,13 +1,10 @@
 -- Lines that are written word by word are read as these words.
-use Rattle.std.proofs.Common.{◌≡◌, ℕ, zero, suc, ◌+◌, ◌-◌, ◌==◌, Bool, true, false, ◌&&◌, ◌||◌, not, cond, nat_le, List, [], ◌∷◌, length, take, get_or, filter, refl, ap, sym, ◌∙◌, arith, append_assoc, one-add}
-use Rattle.std.specs.List.{before_first, enumerate_from, join_with_byte, list_all, position_or_len, slice_split}
-use Rattle.std.proofs.lemmas.Bool.{false≢true}
-use Rattle.std.proofs.lemmas.Bool.Decides.{nat_tests}
-use Rattle.std.proofs.lemmas.List.{append-nil, take_all}
-use Rattle.std.proofs.lemmas.List.Splits.{slice_split_at, slice_split_none}
+use Rattle.text_words.specs.Prelude.{ap, append_assoc, arith, Bool, cond, false, filter, get_or, length, List, nat_le, not, one-add, refl, suc, sym, take, true}
+use Rattle.text_words.specs.Prelude.{zero, ℕ, [], ◌&&◌, ◌+◌, ◌-◌, ◌==◌, ◌||◌, ◌∙◌, ◌∷◌, ◌≡◌, false≢true, nat_tests, append-nil, take_all, slice_split_at}
+use Rattle.text_words.specs.Prelude.{slice_split_none, before_first, enumerate_from, join_with_byte, list_all, position_or_len, slice_split, is_blank, is_hash}
+use Rattle.text_words.specs.Prelude.{is_word, line_text, lines_from, lines_text, numbered_lines, put_line, without_return, word_lines, words_between, words_in}
+use Rattle.text_words.specs.Prelude.{is_feed}
 use Rattle.std.proofs.lemmas.List.Folds.{list_all-append}
-use Rattle.text_words.specs.Word.{is_feed}
-use Rattle.text_words.specs.Lexing.{is_blank, is_hash, is_word, line_text, lines_from, lines_text, numbered_lines, put_line, without_return, word_lines, words_between, words_in}
 use Rattle.text_words.proofs.Tests.{all_of, both, weaker}
 
 -- a visible byte, but `#`

@@ -1,7 +1,5 @@
 -- Tests of each element of a list.
-use Rattle.std.proofs.Common.{◌≡◌, ℕ, zero, suc, Bool, true, false, ◌&&◌, List, [], ◌∷◌, refl, arith}
-use Rattle.std.specs.List.{All, list_all}
-use Rattle.std.proofs.lemmas.Bool.{false≢true}
+use Rattle.text_words.specs.Prelude.{arith, Bool, false, List, refl, suc, true, zero, ℕ, [], ◌&&◌, ◌∷◌, ◌≡◌, false≢true, All, list_all}
 
 -- a conjunction's parts
 pub both : (a b : Bool) → (a && b) ≡ true → (a ≡ true) × (b ≡ true)

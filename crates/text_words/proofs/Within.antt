@@ -1,7 +1,5 @@
 -- What a number up to a limit says.
-use Rattle.std.proofs.Common.{◌≡◌, ℕ, ◌≤◌, Bool, true, false, cond, nat_le, refl, arith, Some, None}
-use Rattle.std.proofs.lemmas.Bool.Decides.{nat_tests}
-use Rattle.text_words.specs.Word.{within}
+use Rattle.text_words.specs.Prelude.{arith, Bool, cond, false, nat_le, None, refl, Some, true, ℕ, ◌≡◌, ◌≤◌, nat_tests, within}
 
 -- a greater number isn't up to it either
 none_by : (most a b : ℕ) (t u : Bool) → nat_le a most ≡ t → nat_le b most ≡ u → None ≡ cond t (Some a) None → a ≤ b → None ≡ cond u (Some b) None

@@ -1,18 +1,10 @@
 -- Samples, two bytes each.
-use Rattle.std.proofs.Common.{◌≡◌, ℕ, zero, suc, ◌+◌, ◌*◌, ◌<◌, List, [], ◌∷◌, ◌++◌, length, get_or, drop, ℤ, refl, sym, ap, ◌∙◌, append_assoc, arith, false, ◌%◌, ◌/◌, take, ◌≤◌, set, length-set}
-use Rattle.std.specs.Prelude.{FitsSigned}
-use Rattle.std.specs.Str.{bytes_eq}
-use Rattle.std.proofs.Math.Nat.{mul-mod_left, div-mul-le_self}
-use Rattle.std.proofs.lemmas.Bool.{false_from_ne_true}
-use Rattle.std.proofs.lemmas.Slice.Eq.{bytes_eq-Decides}
-use Rattle.std.specs.List.{flat_map, AllByRecursion}
-use Rattle.std.specs.Int.{w16, from_le_bytes, to_le_bytes, cast_signed, cast_unsigned}
+use Rattle.wav_io.specs.Prelude.{ap, append-nil, append_assoc, arith, drop, false, get_or, length, length-set, List, refl, set, suc, sym, take, zero, ℕ, ℤ, []}
+use Rattle.wav_io.specs.Prelude.{◌%◌, ◌*◌, ◌++◌, ◌+◌, ◌/◌, ◌<◌, ◌∙◌, ◌∷◌, ◌≡◌, ◌≤◌, div-mul-le_self, mul-mod_left, false_from_ne_true, to_z-of_z, drop_more}
+use Rattle.wav_io.specs.Prelude.{length-drop, length-take, length-take-le, take_more_set, from_le_bytes-to_le_bytes_2, cast_signed, cast_unsigned}
+use Rattle.wav_io.specs.Prelude.{from_le_bytes, to_le_bytes, w16, AllByRecursion, flat_map, FitsSigned, bytes_eq, sample_bytes, samples_of_bytes, whole_frames}
 use Rattle.std.proofs.Math.Facts.{Fits-of_z}
-use Rattle.std.proofs.lemmas.Int.{to_z-of_z}
-use Rattle.std.proofs.lemmas.List.{append-nil, take_more_set, drop_more, length-drop, length-take, length-take-le}
-use Rattle.std.proofs.lemmas.Nat.{from_le_bytes-to_le_bytes_2}
-use Rattle.wav_io.specs.Canonical.{sample_bytes}
-use Rattle.wav_io.specs.Fields.{samples_of_bytes, whole_frames}
+use Rattle.std.proofs.lemmas.Slice.Eq.{bytes_eq-Decides}
 
 abbrev pair : ℕ → ℕ → ℤ
 pair low high = cast_signed w16 (from_le_bytes w16 (low ∷ high ∷ []))

@@ -1,14 +1,8 @@
 -- A file is cut into its chunks one by one.
-use Rattle.std.proofs.Common.{◌≡◌, ℕ, zero, suc, ◌+◌, ◌%◌, ◌<◌, ◌≤◌, List, [], ◌∷◌, ◌++◌, length, take, drop, Option, refl, sym, ap, ◌∙◌, arith, inl, inr, ltb}
-use Rattle.std.proofs.lemmas.Bool.{cases_lt, lt-ltb, le-ltb, cond-true, cond-false}
-use Rattle.std.proofs.lemmas.List.{length-drop}
-use Rattle.std.specs.Int.{w32}
-use Rattle.wav_io.specs.declared.format.Depths.{Depths}
-use Rattle.wav_io.specs.declared.format.Format.{Format}
-use Rattle.wav_io.specs.Chunks.{Chunk, size_at, first_chunk, after_chunk, chunks_in, chunks}
-use Rattle.wav_io.specs.Fields.{number_at}
-use Rattle.wav_io.specs.Pieces.{chunk_of_size, bytes_after}
-use Rattle.wav_io.specs.Reading.{Finding, ended, Verdict, decides, goes_on, verdict_of, finding_after, scan_of}
+use Rattle.wav_io.specs.Prelude.{ap, arith, drop, inl, inr, length, List, ltb, Option, refl, suc, sym, take, zero, ℕ, [], ◌%◌, ◌++◌, ◌+◌, ◌<◌, ◌∙◌, ◌∷◌, ◌≡◌}
+use Rattle.wav_io.specs.Prelude.{◌≤◌, cases_lt, cond-false, cond-true, le-ltb, lt-ltb, length-drop, w32, Depths, Format, after_chunk, Chunk, chunks, chunks_in}
+use Rattle.wav_io.specs.Prelude.{first_chunk, size_at, number_at, bytes_after, chunk_of_size, decides, ended, Finding, finding_after, goes_on, scan_of, Verdict}
+use Rattle.wav_io.specs.Prelude.{verdict_of}
 
 pub length-after_chunk : (bytes : List ℕ) → 8 ≤ length bytes → length (after_chunk bytes) + 8 ≤ length bytes
 length-after_chunk bytes long = omega (arith, length-drop (size_at bytes + size_at bytes % 2) (drop 8 bytes), length-drop 8 bytes)

@@ -1,24 +1,11 @@
 -- A canonical file is read as what it was written from.
-use Rattle.std.proofs.Common.{◌≡◌, ℕ, ◌+◌, ◌*◌, ◌/◌, ◌^◌, ◌<◌, ◌≤◌, cond, ◌||◌, List, ◌++◌, length, take, drop, ℤ, Some, None, Result, Ok, Err, refl, sym, ap, subst, ◌∙◌, arith, eqb, ltb}
+use Rattle.wav_io.specs.Prelude.{ap, arith, cond, drop, eqb, Err, length, List, ltb, None, Ok, refl, Result, Some, subst, sym, take, ℕ, ℤ, ◌*◌, ◌++◌, ◌+◌, ◌/◌}
+use Rattle.wav_io.specs.Prelude.{◌<◌, ◌^◌, ◌||◌, ◌∙◌, ◌≡◌, ◌≤◌, mul-div_cancel, cond-false, le-ltb, ne_eqb, or_from, take_all, recursion_from_All, div-add-mod'}
+use Rattle.wav_io.specs.Prelude.{from_le_bytes-to_le_bytes_2, from_le_bytes-to_le_bytes_4, from_le_bytes, to_le_bytes, w16, w32, flat_map, All, codes}
+use Rattle.wav_io.specs.Prelude.{FitsSigned, IfOk, OnOk, WavError, Bits, Channels, RateZero, Sixteen, Format, canonical, HasFile, open_head, sample_bytes}
+use Rattle.wav_io.specs.Prelude.{Chunk, chunks, number_at, samples_of_bytes, whole_frames, format_of, terms_of, at_end, body_found, decides, found_in, goes_on}
+use Rattle.wav_io.specs.Prelude.{most_bytes, scan_of, sound_of, sounds, verdict_of, verdict_of_format, wav_file, IsWholeSound, Sound}
 use Rattle.std.specs.Global.{Vec}
-use Rattle.std.specs.Prelude.{All, FitsSigned, IfOk, OnOk, codes}
-use Rattle.std.specs.List.{flat_map}
-use Rattle.std.specs.Int.{w16, w32, to_le_bytes, from_le_bytes}
-use Rattle.std.proofs.Math.Nat.{mul-div_cancel}
-use Rattle.std.proofs.lemmas.Nat.{div-add-mod', from_le_bytes-to_le_bytes_2, from_le_bytes-to_le_bytes_4}
-use Rattle.std.proofs.lemmas.Bool.{le-ltb, ne_eqb, or_from, cond-false}
-use Rattle.std.proofs.lemmas.List.{take_all}
-use Rattle.std.proofs.lemmas.List.Elements.{recursion_from_All}
-use Rattle.wav_io.specs.declared.error.WavError.{WavError}
-use Rattle.wav_io.specs.declared.error.WavError.TheVariants.{Channels, RateZero, Bits}
-use Rattle.wav_io.specs.declared.format.Depths.TheVariants.{Sixteen}
-use Rattle.wav_io.specs.declared.format.Format.{Format}
-use Rattle.wav_io.specs.Sound.{Sound, IsWholeSound}
-use Rattle.wav_io.specs.Canonical.{sample_bytes, canonical, open_head, HasFile}
-use Rattle.wav_io.specs.Fields.{number_at, samples_of_bytes, whole_frames}
-use Rattle.wav_io.specs.Chunks.{Chunk, chunks}
-use Rattle.wav_io.specs.Formats.{terms_of, format_of}
-use Rattle.wav_io.specs.Reading.{most_bytes, body_found, decides, goes_on, verdict_of_format, verdict_of, scan_of, sound_of, sounds, at_end, found_in, wav_file}
 use Rattle.wav_io.proofs.Bodies.{samples_of_bytes-sample_bytes, length-sample_bytes}
 use Rattle.wav_io.proofs.Cutting.{scan_of-decides, scan_of-goes_on}
 use Rattle.wav_io.proofs.Limits.{limited-short}

@@ -1,10 +1,7 @@
 -- What is found in a file of no more bytes than it may have, and in a longer one.
-use Rattle.std.proofs.Common.{◌≡◌, ℕ, ◌+◌, ◌-◌, ◌<◌, ◌≤◌, List, ◌++◌, length, take, Some, None, refl, sym, ap, ◌∙◌, arith, inl, inr, length-append}
-use Rattle.std.proofs.lemmas.Bool.{cases_lt, le-leb, lt-leb, cond-true, cond-false}
-use Rattle.std.proofs.Math.Seq.{take-append-add}
-use Rattle.wav_io.specs.Pieces.{with_front}
-use Rattle.wav_io.specs.Reading.{Finding, refused, body_found, format_cut, ended, at_end, before_end, within_limit, most_bytes}
-use Rattle.wav_io.specs.Scans.{with_body}
+use Rattle.wav_io.specs.Prelude.{ap, arith, inl, inr, length, length-append, List, None, refl, Some, sym, take, ℕ, ◌++◌, ◌+◌, ◌-◌, ◌<◌, ◌∙◌, ◌≡◌, ◌≤◌}
+use Rattle.wav_io.specs.Prelude.{take-append-add, cases_lt, cond-false, cond-true, le-leb, lt-leb, with_front, at_end, before_end, body_found, ended, Finding}
+use Rattle.wav_io.specs.Prelude.{format_cut, most_bytes, refused, within_limit, with_body}
 
 pub limited-short : (seen : ℕ) (find : List ℕ → Finding) (bytes : List ℕ) → seen + length bytes ≤ most_bytes → within_limit seen find bytes ≡ at_end (find bytes)
 unfolding within_limit

@@ -1,10 +1,7 @@
 -- Frames that are cut between two parts of the data.
-use Rattle.std.proofs.Common.{◌≡◌, ℕ, ◌+◌, ◌*◌, ◌/◌, ◌<◌, ◌⊎◌, List, [], ◌++◌, length, take, drop, sym, ap, ◌∙◌, arith, inl, inr, append_assoc, append-nil, length-append}
-use Rattle.std.specs.Prelude.{min}
-use Rattle.std.proofs.lemmas.List.{take-append-drop, length-take, length-drop, nil_from_length}
-use Rattle.std.proofs.lemmas.Nat.{div-add-mod', mod_below}
-use Rattle.std.proofs.Math.Nat.{div-mul-le_self}
-use Rattle.wav_io.specs.Frames.{IsCut}
+use Rattle.wav_io.specs.Prelude.{ap, append-nil, append_assoc, arith, drop, inl, inr, length, length-append, List, sym, take, ℕ, [], ◌*◌, ◌++◌, ◌+◌, ◌/◌, ◌<◌}
+use Rattle.wav_io.specs.Prelude.{◌∙◌, ◌≡◌, ◌⊎◌, div-mul-le_self, length-drop, length-take, nil_from_length, take-append-drop, div-add-mod', mod_below, min}
+use Rattle.wav_io.specs.Prelude.{IsCut}
 
 -- nothing is after a part that isn't filled
 pub nothing_behind : (size : ℕ) (part rest before body : List ℕ) → part ++ rest ≡ before ++ body → length part ≡ min size (length before + length body) → length part < size → rest ≡ []

@@ -1,24 +1,14 @@
 -- Places in a file, and the steps from one to the next.
-use Rattle.std.proofs.Common.{◌≡◌, ◌≢◌, ℕ, ◌+◌, ◌-◌, ◌%◌, ◌<◌, ◌≤◌, true, false, cond, List, [], ◌++◌, length, take, drop, Option, Some, None, Result, Ok, Err, refl, sym, ap, subst, ◌∙◌, append_assoc, arith, ltb, inl, inr, length-append, append-nil}
-use Rattle.std.proofs.lemmas.Bool.{cases_lt, lt-ltb, le-ltb, cond-true, cond-false}
-use Rattle.std.proofs.Math.Seq.{take-append-add, drop-append-add, take-append_seam}
-use Rattle.std.proofs.lemmas.List.{take_all, length-take, length-drop, drop-append-le, drop-drop, take-append-le, take-take, drop_all, nil_from_length}
-use Rattle.std.specs.Prelude.{IfSome, codes, min, is_some}
-use Rattle.std.specs.Int.{w32}
-use Rattle.std.specs.Str.{bytes_eq}
+use Rattle.wav_io.specs.Prelude.{ap, append-nil, append_assoc, arith, cond, drop, Err, false, inl, inr, length, length-append, List, ltb, None, Ok, Option}
+use Rattle.wav_io.specs.Prelude.{refl, Result, Some, subst, sym, take, true, ℕ, [], ◌%◌, ◌++◌, ◌+◌, ◌-◌, ◌<◌, ◌∙◌, ◌≡◌, ◌≢◌, ◌≤◌, drop-append-add}
+use Rattle.wav_io.specs.Prelude.{take-append-add, take-append_seam, cases_lt, cond-false, cond-true, le-ltb, lt-ltb, drop-append-le, drop-drop, drop_all}
+use Rattle.wav_io.specs.Prelude.{length-drop, length-take, nil_from_length, take-append-le, take-take, take_all, w32, codes, IfSome, is_some, min, bytes_eq}
+use Rattle.wav_io.specs.Prelude.{WavError, FormatTwice, Memory, NoFormat, NotRiff, NotWave, ShortFormat, Depths, Format, Place, DataBody, FormatBody, Head}
+use Rattle.wav_io.specs.Prelude.{Opening, Refused, Chunk, chunks, number_at, format_of, IsFormat, bytes_after, chunk_of_size, found_from, GoesOn, LeadsTo}
+use Rattle.wav_io.specs.Prelude.{body_found, data_chunk, decides, Finding, finding_after, format_chunk, format_cut, found_in, goes_on, refused, scan_of}
+use Rattle.wav_io.specs.Prelude.{Verdict, verdict_of, verdict_of_format}
 use Rattle.std.proofs.lemmas.Slice.{take-put_mid}
 use borrow.Rule.Slice.PartMut.{put_mid}
-use Rattle.wav_io.specs.declared.error.WavError.{WavError}
-use Rattle.wav_io.specs.declared.error.WavError.TheVariants.{Memory, FormatTwice, ShortFormat, NoFormat, NotRiff, NotWave}
-use Rattle.wav_io.specs.declared.format.Depths.{Depths}
-use Rattle.wav_io.specs.declared.format.Format.{Format}
-use Rattle.wav_io.specs.declared.place.Place.{Place}
-use Rattle.wav_io.specs.declared.place.Place.TheVariants.{Opening, Head, FormatBody, DataBody, Refused}
-use Rattle.wav_io.specs.Chunks.{Chunk, chunks}
-use Rattle.wav_io.specs.Fields.{number_at}
-use Rattle.wav_io.specs.Formats.{IsFormat, format_of}
-use Rattle.wav_io.specs.Pieces.{found_from, chunk_of_size, bytes_after, LeadsTo, GoesOn}
-use Rattle.wav_io.specs.Reading.{Finding, refused, body_found, format_cut, Verdict, decides, goes_on, verdict_of_format, format_chunk, data_chunk, verdict_of, finding_after, scan_of, found_in}
 use Rattle.wav_io.proofs.Cutting.{scan_of-headed, headed}
 
 -- ---- places with no byte kept

@@ -1,27 +1,13 @@
 -- Readers of the bytes of a file's samples.
-use Rattle.std.proofs.Common.{◌≡◌, ℕ, ◌*◌, ◌/◌, ◌+◌, ◌%◌, ◌<◌, ◌≤◌, true, false, List, [], ◌++◌, length, Some, None, Result, Ok, Err, inl, inr, refl, sym, ap, subst, ◌∙◌, arith, append-nil, append_assoc}
-use Rattle.std.proofs.lemmas.Bool.{cases_lt, cases_Bool, cond-true}
+use Rattle.wav_io.specs.Prelude.{ap, append-nil, append_assoc, arith, Err, false, inl, inr, length, List, None, Ok, refl, Result, Some, subst, sym, true, ℕ, []}
+use Rattle.wav_io.specs.Prelude.{◌%◌, ◌*◌, ◌++◌, ◌+◌, ◌/◌, ◌<◌, ◌∙◌, ◌≡◌, ◌≤◌, div-mul-le_self, mul-le-mul_left, mul-mod_left, cases_Bool, cases_lt, cond-true}
+use Rattle.wav_io.specs.Prelude.{length-take-le, IsOk, WavError, Memory, UpTo32, Format, Place, DataBody, whole, is_accepted, IsFormat, IsCut, found_from}
+use Rattle.wav_io.specs.Prelude.{with_front, error_of, IsOfHead, IsPart, Raw, raw_frame, raw_to_come, raws, Reader, rest_of, with_bytes, Contents, most_bytes}
+use Rattle.wav_io.specs.Prelude.{IsScan, refusal_of, to_come}
 use Rattle.std.proofs.lemmas.Bool.Decides.{nat_tests}
-use Rattle.std.proofs.Math.Nat.{mul-le-mul_left, mul-mod_left}
-use Rattle.std.proofs.lemmas.List.{length-take-le}
-use Rattle.std.proofs.Math.Nat.{div-mul-le_self}
-use Rattle.std.specs.Prelude.{IsOk}
-use Rattle.wav_io.specs.declared.error.WavError.{WavError}
-use Rattle.wav_io.specs.declared.error.WavError.TheVariants.{Memory}
-use Rattle.wav_io.specs.declared.format.Depths.TheVariants.{UpTo32}
-use Rattle.wav_io.specs.declared.format.Format.{Format}
-use Rattle.wav_io.specs.declared.place.Place.{Place}
-use Rattle.wav_io.specs.declared.place.Place.TheVariants.{DataBody}
-use Rattle.wav_io.specs.Fields.{whole}
-use Rattle.wav_io.specs.Formats.{IsFormat, is_accepted}
-use Rattle.wav_io.specs.Frames.{IsCut}
-use Rattle.wav_io.specs.Pieces.{found_from, with_front}
-use Rattle.wav_io.specs.Reading.{Contents, most_bytes}
-use Rattle.wav_io.specs.Readers.{Reader, IsOfHead, IsPart, Raw, error_of, rest_of, raw_to_come, raw_frame, raws, with_bytes}
-use Rattle.wav_io.specs.Scans.{IsScan, refusal_of, to_come}
 use Rattle.wav_io.proofs.Limits.{limited-short, limited-long}
-use Rattle.wav_io.proofs.Scans.{ends_at, ends_data}
 use Rattle.wav_io.proofs.Readers.{fed_comes, cut-whole, whole-less, format_comes}
+use Rattle.wav_io.proofs.Scans.{ends_at, ends_data}
 
 -- the bits of a sample
 bits_range : (bits : ℕ) → is_accepted UpTo32 bits ≡ true → (8 ≤ bits) × (bits ≤ 32)

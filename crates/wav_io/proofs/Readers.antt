@@ -1,26 +1,11 @@
 -- Readers of a file in pieces.
-use Rattle.std.proofs.Common.{◌≡◌, ◌≢◌, ℕ, zero, suc, ◌+◌, ◌*◌, ◌/◌, ◌%◌, ◌<◌, true, false, List, [], ◌∷◌, ◌++◌, length, take, Option, Some, None, Result, Ok, Err, refl, sym, ap, subst, ◌∙◌, arith, append-nil, append_assoc, length-append, inl, inr, ℤ}
-use Rattle.std.proofs.Math.Seq.{take-append-add}
-use Rattle.std.specs.Prelude.{IfSome}
-use Rattle.std.specs.Int.{w16, cast_signed, from_le_bytes}
-use Rattle.std.proofs.lemmas.Bool.{cond-true, cond-false, cases_lt, cases_Bool}
-use Rattle.std.proofs.Math.Nat.{div-eq_of_lt, mul-add-div_right}
-use Rattle.wav_io.specs.declared.error.WavError.{WavError}
-use Rattle.wav_io.specs.declared.error.WavError.TheVariants.{NotRiff, NotWave, NoFormat, FormatTwice, ShortFormat, Tag, Bits, Channels, RateZero, NoData, TooLong, Memory}
-use Rattle.wav_io.specs.declared.format.Depths.{Depths}
-use Rattle.wav_io.specs.declared.format.Depths.TheVariants.{Sixteen}
-use Rattle.wav_io.specs.declared.format.Format.{Format}
-use Rattle.wav_io.specs.declared.place.Place.{Place}
-use Rattle.wav_io.specs.declared.place.Place.TheVariants.{Opening, DataBody, Refused}
-use Rattle.wav_io.specs.declared.scan.Part.{Part}
-use Rattle.wav_io.specs.declared.scan.Scan.{Scan}
-use Rattle.wav_io.specs.Fields.{whole, samples_of_bytes}
-use Rattle.wav_io.specs.Frames.{IsCut}
-use Rattle.wav_io.specs.Pieces.{with_front, found_from}
-use Rattle.wav_io.specs.Reading.{Contents, contents, most_bytes, sound_of, sounds, wav_file, IsRefusal}
-use Rattle.wav_io.specs.Readers.{Reader, IsPart, error_of, rest_of, sound_to_come, wav_frame, with_samples}
-use Rattle.wav_io.specs.Scans.{to_come, refusal_of, FollowsData, IsScan}
-use Rattle.wav_io.specs.Sound.{Sound}
+use Rattle.wav_io.specs.Prelude.{ap, append-nil, append_assoc, arith, Err, false, inl, inr, length, length-append, List, None, Ok, Option, refl, Result, Some}
+use Rattle.wav_io.specs.Prelude.{subst, suc, sym, take, true, zero, ℕ, ℤ, [], ◌%◌, ◌*◌, ◌++◌, ◌+◌, ◌/◌, ◌<◌, ◌∙◌, ◌∷◌, ◌≡◌, ◌≢◌, div-eq_of_lt}
+use Rattle.wav_io.specs.Prelude.{mul-add-div_right, take-append-add, cases_Bool, cases_lt, cond-false, cond-true, cast_signed, from_le_bytes, w16, IfSome}
+use Rattle.wav_io.specs.Prelude.{WavError, Bits, Channels, FormatTwice, Memory, NoData, NoFormat, NotRiff, NotWave, RateZero, ShortFormat, Tag, TooLong, Depths}
+use Rattle.wav_io.specs.Prelude.{Sixteen, Format, Place, DataBody, Opening, Refused, Part, Scan, samples_of_bytes, whole, IsCut, found_from, with_front}
+use Rattle.wav_io.specs.Prelude.{error_of, IsPart, Reader, rest_of, sound_to_come, wav_frame, with_samples, Contents, contents, IsRefusal, most_bytes, sound_of}
+use Rattle.wav_io.specs.Prelude.{sounds, wav_file, FollowsData, IsScan, refusal_of, to_come, Sound}
 use Rattle.wav_io.proofs.Bodies.{whole_frames-whole}
 use Rattle.wav_io.proofs.Limits.{limited-short, limited-long}
 use Rattle.wav_io.proofs.Places.{regroup}

@@ -1,10 +1,5 @@
 -- A refusal is answered wherever it is given.
-use Rattle.std.proofs.Common.{◌≡◌, Result, Ok, Err, refl, sym, ◌∙◌}
-use Rattle.std.specs.Prelude.{IsOk}
-use Rattle.wav_io.specs.declared.error.WavError.{WavError}
-use Rattle.wav_io.specs.declared.error.WavError.TheVariants.{Memory}
-use Rattle.wav_io.specs.Sound.{Sound}
-use Rattle.wav_io.specs.Reading.{Reads}
+use Rattle.wav_io.specs.Prelude.{Err, Ok, refl, Result, sym, ◌∙◌, ◌≡◌, IsOk, WavError, Memory, Reads, Sound}
 
 pub refusal_comes : (r given : Result Sound WavError) → Reads r given → (r ≡ Err Memory → IsOk given) → (e : WavError) → given ≡ Err e → r ≡ Err e
 refusal_comes (Ok w) (Ok s) reads memory e is = absurd (cc)

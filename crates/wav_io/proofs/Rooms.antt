@@ -1,6 +1,5 @@
 -- Values that are put into room after others.
-use Rattle.std.proofs.Common.{◌≡◌, ℕ, ◌+◌, ◌≤◌, List, ◌++◌, length, take, sym, ap, ◌∙◌, append_assoc, length-append, arith}
-use Rattle.std.proofs.lemmas.List.{take_at, take_all, length-take}
+use Rattle.wav_io.specs.Prelude.{ap, append_assoc, arith, length, length-append, List, sym, take, ℕ, ◌++◌, ◌+◌, ◌∙◌, ◌≡◌, ◌≤◌, length-take, take_all, take_at}
 
 pub placed_behind : {X : Type 0} (n b : ℕ) (xs d p r : List X) → b ≤ length xs → b + length d ≡ n → take n ((take b xs ++ (d ++ p)) ++ r) ≡ take b xs ++ d
 placed_behind {X} n b xs d p r inside count =

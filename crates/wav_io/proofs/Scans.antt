@@ -1,22 +1,10 @@
 -- How far a file is read: some bytes, up to the limit, and the end.
-use Rattle.std.proofs.Common.{◌≡◌, ℕ, ◌+◌, ◌-◌, ◌<◌, ◌≤◌, true, false, List, [], ◌++◌, length, take, Option, Some, None, Ok, Err, refl, sym, ap, subst, ◌∙◌, arith, ltb, inl, inr, length-append, append-nil}
-use Rattle.std.proofs.lemmas.Bool.{cases_lt, lt-ltb, cond-true}
-use Rattle.std.proofs.Math.Seq.{take-append-add}
-use Rattle.std.proofs.lemmas.List.{take_all, take-append-le, drop_all, length-take}
-use Rattle.std.specs.Prelude.{codes, min}
-use Rattle.std.specs.Str.{bytes_eq}
-use Rattle.wav_io.specs.declared.error.WavError.{WavError}
-use Rattle.wav_io.specs.declared.error.WavError.TheVariants.{TooLong, NotRiff, NotWave}
-use Rattle.wav_io.specs.declared.format.Depths.{Depths}
-use Rattle.wav_io.specs.declared.format.Format.{Format}
-use Rattle.wav_io.specs.declared.place.Place.{Place}
-use Rattle.wav_io.specs.declared.place.Place.TheVariants.{Opening, Head, FormatBody, DataBody, Refused}
-use Rattle.wav_io.specs.declared.scan.Scan.{Scan}
-use Rattle.wav_io.specs.declared.scan.Part.{Part}
-use Rattle.wav_io.specs.Chunks.{chunks}
-use Rattle.wav_io.specs.Pieces.{found_from, IsSoundPlace, HasSeen, GoesOn, IsWalked, with_front}
-use Rattle.wav_io.specs.Reading.{Finding, refused, body_found, format_cut, ended, scan_of, found_in, at_end, before_end, within_limit, most_bytes}
-use Rattle.wav_io.specs.Scans.{IsScan, to_come, part_bytes, with_body, IsAfterData, ContinuesData, GoesThrough, FollowsData}
+use Rattle.wav_io.specs.Prelude.{ap, append-nil, arith, Err, false, inl, inr, length, length-append, List, ltb, None, Ok, Option, refl, Some, subst, sym, take}
+use Rattle.wav_io.specs.Prelude.{true, ℕ, [], ◌++◌, ◌+◌, ◌-◌, ◌<◌, ◌∙◌, ◌≡◌, ◌≤◌, take-append-add, cases_lt, cond-true, lt-ltb, drop_all, length-take}
+use Rattle.wav_io.specs.Prelude.{take-append-le, take_all, codes, min, bytes_eq, WavError, NotRiff, NotWave, TooLong, Depths, Format, Place, DataBody}
+use Rattle.wav_io.specs.Prelude.{FormatBody, Head, Opening, Refused, Part, Scan, chunks, found_from, GoesOn, HasSeen, IsSoundPlace, IsWalked, with_front}
+use Rattle.wav_io.specs.Prelude.{at_end, before_end, body_found, ended, Finding, format_cut, found_in, most_bytes, refused, scan_of, within_limit}
+use Rattle.wav_io.specs.Prelude.{ContinuesData, FollowsData, GoesThrough, IsAfterData, IsScan, part_bytes, to_come, with_body}
 use Rattle.wav_io.proofs.Bodies.{no_room}
 use Rattle.wav_io.proofs.Cutting.{scan_of-ended}
 use Rattle.wav_io.proofs.Limits.{limited-short, limited-long, limited-append, before_end-with_body}

@@ -1,19 +1,10 @@
 -- The data of a file has no more bytes than a file may have.
-use Rattle.std.proofs.Common.{◌≡◌, ℕ, zero, suc, ◌+◌, ◌-◌, ◌*◌, ◌/◌, ◌%◌, ◌≤◌, true, false, cond, List, [], ◌∷◌, length, take, drop, Option, Some, None, Result, Ok, Err, refl, sym, ap, ◌∙◌, arith, inl, inr, ltb}
-use Rattle.std.proofs.lemmas.Bool.{cases_lt}
-use Rattle.std.proofs.lemmas.List.{length-drop, length-take}
-use Rattle.std.specs.Prelude.{codes}
-use Rattle.std.specs.Str.{bytes_eq}
-use Rattle.wav_io.specs.declared.error.WavError.{WavError}
-use Rattle.wav_io.specs.declared.error.WavError.TheVariants.{NotRiff, NotWave, ShortFormat}
-use Rattle.wav_io.specs.declared.format.Depths.{Depths}
-use Rattle.wav_io.specs.declared.format.Depths.TheVariants.{UpTo32}
-use Rattle.wav_io.specs.declared.format.Format.{Format}
-use Rattle.wav_io.specs.Chunks.{Chunk, size_at, first_chunk, after_chunk, chunks_in, chunks}
-use Rattle.wav_io.specs.Fields.{whole}
-use Rattle.wav_io.specs.Formats.{format_of}
-use Rattle.wav_io.specs.Reading.{Contents, Finding, refused, body_found, format_cut, ended, decides, goes_on, verdict_of_format, format_chunk, data_chunk, verdict_of, finding_after, scan_of, found_in, at_end, before_end, contents, most_bytes}
-use Rattle.wav_io.specs.Readers.{Raw, raw_file, raw_frame, raws}
+use Rattle.wav_io.specs.Prelude.{ap, arith, cond, drop, Err, false, inl, inr, length, List, ltb, None, Ok, Option, refl, Result, Some, suc, sym, take, true}
+use Rattle.wav_io.specs.Prelude.{zero, ℕ, [], ◌%◌, ◌*◌, ◌+◌, ◌-◌, ◌/◌, ◌∙◌, ◌∷◌, ◌≡◌, ◌≤◌, cases_lt, length-drop, length-take, codes, bytes_eq, WavError}
+use Rattle.wav_io.specs.Prelude.{NotRiff, NotWave, ShortFormat, Depths, UpTo32, Format, after_chunk, Chunk, chunks, chunks_in, first_chunk, size_at, whole}
+use Rattle.wav_io.specs.Prelude.{format_of, Raw, raw_file, raw_frame, raws, at_end, before_end, body_found, Contents, contents, data_chunk, decides, ended}
+use Rattle.wav_io.specs.Prelude.{Finding, finding_after, format_chunk, format_cut, found_in, goes_on, most_bytes, refused, scan_of, verdict_of}
+use Rattle.wav_io.specs.Prelude.{verdict_of_format}
 use Rattle.wav_io.proofs.Limits.{limited-long, limited-short}
 
 -- what is found has at most so many bytes of data

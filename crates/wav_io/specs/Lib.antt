@@ -1,3 +1,4 @@
+pub mod Prelude
 pub mod Sound
 pub mod Canonical
 pub mod Fields

@@ -1,7 +1,4 @@
-use Rattle.std.proofs.Common.{◌≡◌, ℕ, List, Some, ap, sym, ◌∙◌, take}
-use Rattle.std.specs.Prelude.{option_map}
-use Rattle.asound_conf.specs.Node.{entries_in}
-use Rattle.asound_conf.specs.Device.{numbered_values, count_of_names}
+use Rattle.asound_conf.specs.Prelude.{ap, List, Some, sym, take, ℕ, ◌∙◌, ◌≡◌, option_map, count_of_names, numbered_values, entries_in}
 use Rattle.asound_conf.proofs.NumberedValues.{bindings_in-take}
 use Rattle.asound_conf.proofs.channels.group_bindings.Goals as goal
 

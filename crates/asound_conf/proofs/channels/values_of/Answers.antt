@@ -1,13 +1,8 @@
-use Rattle.std.proofs.Common.{◌≡◌, ◌<◌, ℕ, List, [], ◌∷◌, refl, sym, ◌∙◌, ap, arith, None, Some, length, take}
-use Rattle.std.proofs.lemmas.List.{length-set}
-use Rattle.std.specs.Fmt.{decimal}
-use Rattle.std.specs.Prelude.{option_map}
-use Rattle.asound_conf.specs.Device.{number_of_node, count_of_names}
-use Rattle.asound_conf.specs.Node.{entries_in}
-use Rattle.asound_conf.specs.Tree.{get}
+use Rattle.asound_conf.specs.Prelude.{ap, arith, length, List, None, refl, Some, sym, take, ℕ, [], ◌<◌, ◌∙◌, ◌∷◌, ◌≡◌, length-set, decimal, option_map}
+use Rattle.asound_conf.specs.Prelude.{count_of_names, number_of_node, entries_in, get}
 use Rattle.asound_conf.proofs.NumberedValues.{AreFirst-none, AreFirst-kept, AreFirst-more, numbered_values-None}
-use Rattle.asound_conf.proofs.channels.values_of.Goals as goal
 use Rattle.asound_conf.proofs.channels.values_of.Goals.{then-place-lt9, else-place-lt9}
+use Rattle.asound_conf.proofs.channels.values_of.Goals as goal
 
 pub loop-place-init : goal.loop-place-init
 loop-place-init c = (AreFirst-none (entries_in c.args.group) (0 ∷ 0 ∷ 0 ∷ 0 ∷ 0 ∷ 0 ∷ 0 ∷ 0 ∷ 0 ∷ []), refl)

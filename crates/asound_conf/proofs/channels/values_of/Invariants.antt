@@ -1,5 +1,4 @@
-use Rattle.std.proofs.Common.{◌≡◌, length}
-use Rattle.asound_conf.specs.Node.{entries_in}
+use Rattle.asound_conf.specs.Prelude.{length, ◌≡◌, entries_in}
 use Rattle.asound_conf.proofs.NumberedValues.{AreFirst}
 use Rattle.asound_conf.proofs.channels.values_of.Given as goal
 

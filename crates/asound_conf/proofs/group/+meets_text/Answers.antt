@@ -1,8 +1,5 @@
-use Rattle.std.proofs.Common.{◌-◌, ◌||◌, not, take, drop, get_or, length, Some, arith, sym, ap, ◌∙◌}
-use Rattle.asound_conf.specs.Parts.{part_in, parts_in}
-use Rattle.asound_conf.specs.Place.{meets_text}
-use Rattle.asound_conf.specs.Rows.{group_of, node, row_at}
-use Rattle.asound_conf.specs.Tree.{group, group_in}
+use Rattle.asound_conf.specs.Prelude.{ap, arith, drop, get_or, length, not, Some, sym, take, ◌-◌, ◌||◌, ◌∙◌, part_in, parts_in, meets_text, group_of, node}
+use Rattle.asound_conf.specs.Prelude.{row_at, group, group_in}
 use Rattle.asound_conf.proofs.Downs.{is_text-group, is_text-text, meets-last, meets-node, meets-None, met-absent, met-node, met-removes, no_part}
 use Rattle.asound_conf.proofs.group.+meets_text.Goals as goal
 

@@ -1,6 +1,4 @@
-use Rattle.std.proofs.Common.{refl, ℕ, List, None, sym, ◌∙◌, subst}
-use Rattle.asound_conf.specs.Rows.{IsAbsent, IsNode}
-use Rattle.asound_conf.specs.Table.{name_in}
+use Rattle.asound_conf.specs.Prelude.{List, None, refl, subst, sym, ℕ, ◌∙◌, IsAbsent, IsNode, name_in}
 use Rattle.asound_conf.proofs.Groups.{Alters-same}
 use Rattle.asound_conf.proofs.Puts.{push-text, group-Kind, group-same, push-Alters, push-Leads, IsKeyStep-push, IsKeyStep-IsNode}
 use Rattle.asound_conf.proofs.group.put_group.Goals as goal

@@ -1,9 +1,7 @@
-use Rattle.std.proofs.Common.{ℕ, List, Some, sym, ap, ◌∙◌, subst}
-use Rattle.asound_conf.specs.Rows.{Alters, ConfRow, row_at, Contents, IsAbsent, IsNode}
-use Rattle.asound_conf.specs.Table.{name_in, span_in}
-use Rattle.asound_conf.proofs.Rows.{Alters-set, only-Some}
+use Rattle.asound_conf.specs.Prelude.{ap, List, Some, subst, sym, ℕ, ◌∙◌, Alters, ConfRow, Contents, IsAbsent, IsNode, row_at, name_in, span_in}
 use Rattle.asound_conf.proofs.Groups.{Alters-same}
 use Rattle.asound_conf.proofs.Puts.{push-text, push-Alters, push-Leads, text-Kind, text-set}
+use Rattle.asound_conf.proofs.Rows.{Alters-set, only-Some}
 use Rattle.asound_conf.proofs.group.put_text.Goals as goal
 
 pub returns-in_default : goal.returns-in_default

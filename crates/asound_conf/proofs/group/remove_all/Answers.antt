@@ -1,7 +1,5 @@
-use Rattle.std.proofs.Common.{◌≡◌, ◌<◌, ℕ, List, None, refl, sym, ◌∙◌, ap, ap₂, subst, set}
-use Rattle.asound_conf.specs.Rows.{Alters, Contents, IsAbsent, IsNode, ConfRow, group_of, row_at}
-use Rattle.asound_conf.specs.Table.{name_in}
-use Rattle.asound_conf.specs.Tree.{without_name}
+use Rattle.asound_conf.specs.Prelude.{ap, ap₂, List, None, refl, set, subst, sym, ℕ, ◌<◌, ◌∙◌, ◌≡◌, Alters, ConfRow, Contents, group_of, IsAbsent, IsNode}
+use Rattle.asound_conf.specs.Prelude.{row_at, name_in, without_name}
 use Rattle.asound_conf.proofs.Groups.{Alters-both, Alters-same, group-removed, has_node-IsAbsent, members, members-removed}
 use Rattle.asound_conf.proofs.Places.{without-none}
 use Rattle.asound_conf.proofs.Rows.{Alters-set, is_in-Some, only-None}

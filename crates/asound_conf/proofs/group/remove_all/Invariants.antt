@@ -1,7 +1,4 @@
-use Rattle.std.proofs.Common.{◌≡◌}
-use Rattle.asound_conf.specs.Rows.{Alters, group_of}
-use Rattle.asound_conf.specs.Table.{name_in}
-use Rattle.asound_conf.specs.Tree.{without_name}
+use Rattle.asound_conf.specs.Prelude.{◌≡◌, Alters, group_of, name_in, without_name}
 use Rattle.asound_conf.proofs.Groups.{members}
 use Rattle.asound_conf.proofs.group.remove_all.Given as goal
 

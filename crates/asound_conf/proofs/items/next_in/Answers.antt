@@ -1,5 +1,4 @@
-use Rattle.std.proofs.Common.{◌≡◌, ◌<◌, ◌+◌, ℕ, suc, List, length, true, false, refl, sym, ap, ◌∙◌, arith}
-use Rattle.asound_conf.specs.Rows.{ConfRow, entries_from, is_in, row_at}
+use Rattle.asound_conf.specs.Prelude.{ap, arith, false, length, List, refl, suc, sym, true, ℕ, ◌+◌, ◌<◌, ◌∙◌, ◌≡◌, ConfRow, entries_from, is_in, row_at}
 use Rattle.asound_conf.proofs.Walk.{entries_from-end, entries_from-in, entries_from-out}
 use Rattle.asound_conf.proofs.items.next_in.Goals as goal
 

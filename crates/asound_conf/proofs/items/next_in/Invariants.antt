@@ -1,5 +1,4 @@
-use Rattle.std.proofs.Common.{◌≡◌}
-use Rattle.asound_conf.specs.Rows.{entries_from}
+use Rattle.asound_conf.specs.Prelude.{◌≡◌, entries_from}
 use Rattle.asound_conf.proofs.items.next_in.Given as goal
 
 abbrev pub invariant-loop-number : goal.invariant-loop-number

@@ -1,5 +1,4 @@
-use Rattle.std.proofs.Common.{Some, sym, ap, ◌∙◌}
-use Rattle.asound_conf.specs.Table.{text_bytes}
+use Rattle.asound_conf.specs.Prelude.{ap, Some, sym, ◌∙◌, text_bytes}
 use Rattle.asound_conf.proofs.Groups.{get-IsAbsent, get-IsNode}
 use Rattle.asound_conf.proofs.node.find.Goals as goal
 

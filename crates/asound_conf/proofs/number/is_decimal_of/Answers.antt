@@ -1,6 +1,5 @@
 -- A name that is read as the number is its text.
-use Rattle.std.proofs.Common.{Some, None, sym}
-use Rattle.text_words.proofs.Decimals.{bytes_eq-decimal}
+use Rattle.asound_conf.specs.Prelude.{None, Some, sym, bytes_eq-decimal}
 use Rattle.asound_conf.proofs.number.is_decimal_of.Goals as goal
 
 pub returns-in-Some : goal.returns-in-Some

@@ -1,7 +1,5 @@
-use Rattle.std.proofs.Common.{◌≡◌, false, take}
-use Rattle.std.specs.List.{list_any}
+use Rattle.asound_conf.specs.Prelude.{false, take, ◌≡◌, list_any, parts_in}
 use Rattle.asound_conf.specs.Key.{has_prefix}
-use Rattle.asound_conf.specs.Parts.{parts_in}
 use Rattle.asound_conf.proofs.part.any_prefix.Given as goal
 
 abbrev pub invariant-loop-part : goal.invariant-loop-part

@@ -1,8 +1,7 @@
-use Rattle.std.proofs.Common.{◌≡◌, ◌≤◌, ◌+◌, List, [], ◌∷◌, length, length-append, take, refl, sym, ap, subst, ◌∙◌, arith}
-use Rattle.std.proofs.lemmas.List.{length-take, take-append-le}
-use Rattle.std.proofs.Math.Seq.{take-length}
-use Rattle.asound_conf.specs.declared.part.Part as code
+use Rattle.asound_conf.specs.Prelude.{ap, arith, length, length-append, List, refl, subst, sym, take, [], ◌+◌, ◌∙◌, ◌∷◌, ◌≡◌, ◌≤◌, take-length, length-take}
+use Rattle.asound_conf.specs.Prelude.{take-append-le}
 use Rattle.asound_conf.proofs.PartLists.{IsPushed, IsPushed-next, piece-place}
+use Rattle.asound_conf.specs.declared.part.Part as code
 use Rattle.asound_conf.proofs.part.push_parts.Goals as goal
 
 pub loop-piece-init : goal.loop-piece-init

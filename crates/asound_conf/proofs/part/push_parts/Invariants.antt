@@ -1,5 +1,4 @@
-use Rattle.std.proofs.Common.{◌≡◌, ◌<◌, ◌+◌, ◌^◌, List, ℕ, length, take}
-use Rattle.asound_conf.specs.Table.{span_in}
+use Rattle.asound_conf.specs.Prelude.{length, List, take, ℕ, ◌+◌, ◌<◌, ◌^◌, ◌≡◌, span_in}
 use Rattle.asound_conf.proofs.PartLists.{IsPushed}
 use Rattle.asound_conf.proofs.part.push_parts.Given as goal
 

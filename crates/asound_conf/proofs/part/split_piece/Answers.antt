@@ -1,9 +1,7 @@
-use Rattle.std.proofs.Common.{◌<◌, ◌+◌, ◌-◌, ℕ, length, take, drop, ap, ◌∙◌, arith, ◌≡◌, None, sym}
-use Rattle.std.specs.List.{position}
-use Rattle.std.proofs.lemmas.List.{length-drop, length-take-le, take_rest}
+use Rattle.asound_conf.specs.Prelude.{ap, arith, drop, length, None, sym, take, ℕ, ◌+◌, ◌-◌, ◌<◌, ◌∙◌, ◌≡◌, length-drop, length-take-le, take_rest, position}
 use Rattle.std.proofs.lemmas.List.Quantifiers.{position-Some}
-use Rattle.asound_conf.specs.Key.{is_dot}
 use Rattle.text_words.proofs.Cuts.{split_at, split_none}
+use Rattle.asound_conf.specs.Key.{is_dot}
 use Rattle.asound_conf.proofs.part.split_piece.Goals as goal
 
 pub returns-in_err-end-clause-none : goal.returns-in_err-end-clause-none

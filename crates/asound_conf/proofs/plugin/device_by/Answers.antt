@@ -1,7 +1,4 @@
-use Rattle.std.proofs.Common.{◌∙◌, ap, sym}
-use Rattle.std.proofs.lemmas.Result.{err_from_is_err_and}
-use Rattle.asound_conf.specs.Device.{◌>>=◌, device_in}
-use Rattle.asound_conf.specs.Node.{entries_in}
+use Rattle.asound_conf.specs.Prelude.{ap, sym, ◌∙◌, err_from_is_err_and, device_in, ◌>>=◌, entries_in}
 use Rattle.asound_conf.proofs.Fields.{device_by_definition}
 use Rattle.asound_conf.proofs.plugin.device_by.Goals as goal
 

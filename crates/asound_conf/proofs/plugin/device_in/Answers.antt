@@ -1,5 +1,4 @@
-use Rattle.std.proofs.lemmas.Result.{err_from_is_err_and}
-use Rattle.asound_conf.specs.Device.{device_in}
+use Rattle.asound_conf.specs.Prelude.{err_from_is_err_and, device_in}
 use Rattle.asound_conf.proofs.plugin.device_in.Goals as goal
 
 pub returns-in_err-slave-clause-value : goal.returns-in_err-slave-clause-value

@@ -1,6 +1,5 @@
 -- The fields that are read in pairs are those of the slave.
-use Rattle.std.proofs.lemmas.Result.{err_from_is_err_and}
-use Rattle.asound_conf.specs.Node.{entries_in}
+use Rattle.asound_conf.specs.Prelude.{err_from_is_err_and, entries_in}
 use Rattle.asound_conf.proofs.Fields.{slave_numbers_pairs}
 use Rattle.asound_conf.proofs.plugin.numbers_of.Goals as goal
 

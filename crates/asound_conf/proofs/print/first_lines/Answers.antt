@@ -1,7 +1,5 @@
 -- The pieces of the two lines, one after another.
-use Rattle.std.proofs.Common.{◌≡◌, ◌++◌, ◌∙◌, ◌∷◌, [], ℕ, List, Result, Ok, Err, ap, append_assoc, codes}
-use Rattle.std.specs.Prelude.{IfOk}
-use Rattle.std.specs.Fmt.{decimal}
+use Rattle.asound_conf.specs.Prelude.{ap, append_assoc, codes, Err, IfOk, List, Ok, Result, ℕ, [], ◌++◌, ◌∙◌, ◌∷◌, ◌≡◌, decimal}
 use Rattle.asound_conf.specs.Text.{kind_text}
 use Rattle.asound_conf.proofs.print.first_lines.Goals as goal
 

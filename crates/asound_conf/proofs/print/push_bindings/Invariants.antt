@@ -1,6 +1,4 @@
-use Rattle.std.proofs.Common.{◌≡◌, ◌++◌, codes, string_bytes, take, map}
-use Rattle.std.specs.Fmt.{decimal}
-use Rattle.std.specs.List.{join_with_byte}
+use Rattle.asound_conf.specs.Prelude.{codes, map, string_bytes, take, ◌++◌, ◌≡◌, decimal, join_with_byte}
 use Rattle.asound_conf.proofs.print.push_bindings.Given as goal
 
 abbrev pub invariant-loop-client : goal.invariant-loop-client

@@ -1,8 +1,5 @@
-use Rattle.std.proofs.Common.{List, ℕ, length, ◌<◌, ◌^◌, ap, sym, subst, ◌∙◌, arith}
-use Rattle.asound_conf.specs.Grammar.{end_of_text, last_line, meaning, start}
-use Rattle.asound_conf.specs.Reading.{state_of}
-use Rattle.asound_conf.specs.Start.{IsTokenAt}
-use Rattle.asound_conf.specs.Token.{LineToken, token_of, tokens}
+use Rattle.asound_conf.specs.Prelude.{ap, arith, length, List, subst, sym, ℕ, ◌<◌, ◌^◌, ◌∙◌, end_of_text, last_line, meaning, start, state_of, IsTokenAt}
+use Rattle.asound_conf.specs.Prelude.{LineToken, token_of, tokens}
 use Rattle.asound_conf.proofs.Readings.{meaning-next, meaning-nil, meaning-refused, Reads-along}
 use Rattle.asound_conf.proofs.Starts.{IsBefore-suffix, IsSuffix-both, IsSuffix-self}
 use Rattle.asound_conf.proofs.reader.read_tokens.Goals as goal

@@ -1,8 +1,4 @@
-use Rattle.std.proofs.Common.{◌≡◌, ◌≤◌, ◌+◌, length}
-use Rattle.asound_conf.specs.Grammar.{last_line, meaning, start}
-use Rattle.asound_conf.specs.Reading.{IsReading, state_of}
-use Rattle.asound_conf.specs.Start.{IsSuffix}
-use Rattle.asound_conf.specs.Token.{tokens}
+use Rattle.asound_conf.specs.Prelude.{length, ◌+◌, ◌≡◌, ◌≤◌, last_line, meaning, start, IsReading, state_of, IsSuffix, tokens}
 use Rattle.asound_conf.proofs.reader.read_tokens.Given as goal
 
 abbrev pub invariant-loop-lexeme : goal.invariant-loop-lexeme

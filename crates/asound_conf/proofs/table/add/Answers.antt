@@ -1,7 +1,4 @@
-use Rattle.std.proofs.Common.{List, subst, sym, ◌≡◌, ◌<◌, length, refl, arith}
-use Rattle.std.proofs.lemmas.Result.{err_from_is_err_and}
-use Rattle.asound_conf.specs.declared.cell.Cell.{Cell}
-use Rattle.asound_conf.specs.Table.{IsTable, text_bytes}
+use Rattle.asound_conf.specs.Prelude.{arith, length, List, refl, subst, sym, ◌<◌, ◌≡◌, err_from_is_err_and, Cell, IsTable, text_bytes}
 use Rattle.asound_conf.proofs.Changes.{IsAdded-steps, IsTable-added, contents-added}
 use Rattle.asound_conf.proofs.table.add.Goals as goal
 

@@ -1,6 +1,4 @@
-use Rattle.std.proofs.Common.{◌-◌, ap, ◌∙◌}
-use Rattle.std.specs.Prelude.{bit_and}
-use Rattle.asound_conf.specs.Table.{bucket_of, hash_by}
+use Rattle.asound_conf.specs.Prelude.{ap, ◌-◌, ◌∙◌, bit_and, bucket_of, hash_by}
 use Rattle.asound_conf.proofs.table.bucket_of_bytes.Goals as goal
 
 pub returns-clause-value : goal.returns-clause-value

@@ -1,8 +1,4 @@
-use Rattle.std.proofs.Common.{◌-◌, ◌<◌, ◌≤◌, ◌^◌, Some, ap, sym, ◌∙◌, arith}
-use Rattle.std.specs.Prelude.{bit_and}
-use Rattle.std.specs.Fmt.{decimal}
-use Rattle.asound_conf.specs.Table.{bucket_of, hash_by}
-use Rattle.text_words.proofs.Decimals.{decimal_of-decimal}
+use Rattle.asound_conf.specs.Prelude.{ap, arith, Some, sym, ◌-◌, ◌<◌, ◌^◌, ◌∙◌, ◌≤◌, decimal, bit_and, decimal_of-decimal, bucket_of, hash_by}
 use Rattle.asound_conf.proofs.table.bucket_of_number.Goals as goal
 
 pub returns-clause-value : goal.returns-clause-value

@@ -1,6 +1,4 @@
-use Rattle.std.proofs.Common.{◌≡◌, true, get_or, sym, ap, ◌∙◌}
-use Rattle.asound_conf.specs.declared.cell.Cell.{Cell}
-use Rattle.asound_conf.specs.Table.{cell_at, lacks, no_cell}
+use Rattle.asound_conf.specs.Prelude.{ap, get_or, sym, true, ◌∙◌, ◌≡◌, Cell, cell_at, lacks, no_cell}
 use Rattle.asound_conf.proofs.Changes.{cell-any, zero_cell}
 use Rattle.asound_conf.proofs.Tables.{IsAbsent-lacks}
 use Rattle.asound_conf.proofs.table.find.Goals as goal

@@ -1,5 +1,4 @@
-use Rattle.std.proofs.Common.{◌≡◌, length, arith}
-use Rattle.asound_conf.specs.Table.{text_bytes}
+use Rattle.asound_conf.specs.Prelude.{arith, length, ◌≡◌, text_bytes}
 use Rattle.asound_conf.proofs.Changes.{IsTable-forgot}
 use Rattle.asound_conf.proofs.table.forget.Goals as goal
 

@@ -1,5 +1,4 @@
-use Rattle.std.proofs.Common.{◌≡◌, ◌<◌, sym, ◌∙◌, arith}
-use Rattle.asound_conf.specs.Table.{no_cell, text_bytes}
+use Rattle.asound_conf.specs.Prelude.{arith, sym, ◌<◌, ◌∙◌, ◌≡◌, no_cell, text_bytes}
 use Rattle.asound_conf.proofs.Changes.{cell-any, zero_cell}
 use Rattle.asound_conf.proofs.Tables.{IsAbsent-sought, IsNode-sought, IsSought-first, IsSought-next}
 use Rattle.asound_conf.proofs.table.last_in_bucket.Goals as goal

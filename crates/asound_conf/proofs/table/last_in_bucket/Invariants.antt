@@ -1,5 +1,4 @@
-use Rattle.std.proofs.Common.{length}
-use Rattle.asound_conf.specs.Table.{text_bytes}
+use Rattle.asound_conf.specs.Prelude.{length, text_bytes}
 use Rattle.asound_conf.proofs.Tables.{IsSought}
 use Rattle.asound_conf.proofs.table.last_in_bucket.Given as goal
 

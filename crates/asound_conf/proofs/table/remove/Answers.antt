@@ -1,9 +1,5 @@
-use Rattle.std.proofs.Common.{◌≡◌, List, length, set, refl, sym, ap, subst, ◌∙◌, arith}
-use Rattle.std.proofs.lemmas.Bool.{false≢true}
-use Rattle.std.proofs.lemmas.List.{length-set}
-use Rattle.asound_conf.specs.declared.cell.Cell.{Cell}
-use Rattle.asound_conf.specs.declared.cell.Content.TheVariants.{Removed}
-use Rattle.asound_conf.specs.Table.{IsTable, cell_at, contents_of, is_live}
+use Rattle.asound_conf.specs.Prelude.{ap, arith, length, List, refl, set, subst, sym, ◌∙◌, ◌≡◌, false≢true, length-set, Cell, Removed, cell_at, contents_of}
+use Rattle.asound_conf.specs.Prelude.{is_live, IsTable}
 use Rattle.asound_conf.proofs.Changes.{IsChanged-read, IsTable-removed, contents-removed, gone-changed}
 use Rattle.asound_conf.proofs.table.remove.Goals as goal
 

@@ -1,6 +1,4 @@
-use Rattle.std.proofs.Common.{sym, subst}
-use Rattle.std.proofs.lemmas.List.{take_rest}
-use Rattle.asound_conf.specs.Start.{IsSuffix}
+use Rattle.asound_conf.specs.Prelude.{subst, sym, take_rest, IsSuffix}
 use Rattle.asound_conf.proofs.Starts.{IsSuffix-drop, IsSuffix-self}
 use Rattle.asound_conf.proofs.token.after_skipped.Goals as goal
 

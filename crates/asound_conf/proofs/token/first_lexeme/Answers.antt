@@ -1,7 +1,4 @@
-use Rattle.std.proofs.Common.{◌≤◌, length, drop, sym, ap, subst, ◌∙◌, arith}
-use Rattle.std.proofs.lemmas.List.{take_rest}
-use Rattle.asound_conf.specs.Start.{IsSuffix}
-use Rattle.asound_conf.specs.Token.{token_end}
+use Rattle.asound_conf.specs.Prelude.{ap, arith, drop, length, subst, sym, ◌∙◌, ◌≤◌, take_rest, IsSuffix, token_end}
 use Rattle.asound_conf.proofs.Starts.{IsBefore-first, IsSuffix-drop, IsSuffix-self}
 use Rattle.asound_conf.proofs.token.first_lexeme.Goals as goal
 

@@ -1,6 +1,4 @@
-use Rattle.std.proofs.Common.{◌≡◌, ◌<◌, ◌∷◌, length, arith, false, true, refl, sym, ◌∙◌, ap, ap₂}
-use Rattle.std.specs.Prelude.{slice_index}
-use Rattle.asound_conf.specs.Token.{LineToken, is_skipped, token_of, tokens}
+use Rattle.asound_conf.specs.Prelude.{ap, ap₂, arith, false, length, refl, sym, true, ◌<◌, ◌∙◌, ◌∷◌, ◌≡◌, slice_index, is_skipped, LineToken, token_of, tokens}
 use Rattle.asound_conf.proofs.Starts.{IsBefore-suffix, IsSuffix-both, IsSuffix-self}
 use Rattle.asound_conf.proofs.Tokens.{tokens-token, tokens-skipped, tokens-none}
 use Rattle.asound_conf.proofs.token.next_token.Goals as goal

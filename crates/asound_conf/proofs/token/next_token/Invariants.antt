@@ -1,6 +1,4 @@
-use Rattle.std.proofs.Common.{◌≡◌, ◌≤◌, ◌+◌, length}
-use Rattle.asound_conf.specs.Start.{IsSuffix}
-use Rattle.asound_conf.specs.Token.{tokens}
+use Rattle.asound_conf.specs.Prelude.{length, ◌+◌, ◌≡◌, ◌≤◌, IsSuffix, tokens}
 use Rattle.asound_conf.proofs.token.next_token.Given as goal
 
 abbrev pub invariant-loop-rest : goal.invariant-loop-rest

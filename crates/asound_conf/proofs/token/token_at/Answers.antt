@@ -1,8 +1,5 @@
 -- Which token begins with the first byte, and where it ends.
-use Rattle.std.proofs.Common.{◌≡◌, ◌∙◌, ap, false, sym, true}
-use Rattle.std.specs.Prelude.{slice_index}
-use Rattle.std.proofs.lemmas.List.{take_rest}
-use Rattle.asound_conf.specs.Token.{is_quote, is_word_byte, quoted_size, quoted_token}
+use Rattle.asound_conf.specs.Prelude.{ap, false, sym, true, ◌∙◌, ◌≡◌, take_rest, slice_index, is_quote, is_word_byte, quoted_size, quoted_token}
 use Rattle.asound_conf.proofs.FirstBytes.{token_at-bad, token_at-mark, token_at-quote, token_at-word, token_end-one, token_end-quote, token_end-word}
 use Rattle.asound_conf.proofs.token.token_at.Goals as goal
 

@@ -1,12 +1,5 @@
-use Rattle.std.proofs.Common.{◌≡◌, [], ◌∷◌, ap, refl, sym, ◌∙◌}
-use Rattle.snd_base.specs.declared.places.Cursor.{Cursor}
-use Rattle.sum_table.specs.Players.{next_of_player}
-use Rattle.card_player.specs.declared.player.CardPlayer.{CardPlayer}
-use Rattle.card_player.specs.Plays.{at_frame, frame_of, seat_of}
-use Rattle.snoop_table.specs.declared.seats.writer.WriterSeat.{WriterSeat}
-use Rattle.snoop_table.specs.Writers.{next_frame}
-use Rattle.card_sim.specs.Moments.{moment_of, position_of_writer}
-use Rattle.card_sim.specs.RunLaws.{HasCaptured-published}
+use Rattle.card_sim.specs.Prelude.{ap, refl, sym, [], ◌∙◌, ◌∷◌, ◌≡◌, Cursor, next_of_player, WriterSeat, next_frame, CardPlayer, at_frame, frame_of, seat_of}
+use Rattle.card_sim.specs.Prelude.{moment_of, position_of_writer, HasCaptured-published}
 use Rattle.card_sim.proofs.Watching.{moment_of-at, position_of_writer-captured, saw-both}
 use Rattle.card_sim.proofs.run.publish.Goals as goal
 

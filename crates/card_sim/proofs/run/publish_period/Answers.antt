@@ -1,13 +1,7 @@
-use Rattle.std.proofs.Common.{◌≡◌, ℕ, ◌+◌, Bool, false, List, [], ◌∷◌, if◌then◌else◌, ap, refl, subst, sym, ◌∙◌, arith}
-use Rattle.snd_base.specs.declared.places.Cursor.{Cursor}
-use Rattle.card_player.specs.declared.player.CardPlayer.{CardPlayer}
+use Rattle.card_sim.specs.Prelude.{ap, arith, Bool, false, if◌then◌else◌, List, refl, subst, sym, ℕ, [], ◌+◌, ◌∙◌, ◌∷◌, ◌≡◌, Cursor, WriterSeat, CardPlayer}
+use Rattle.card_sim.specs.Prelude.{HasPlayed-none, frame_of, is_multiple, IsDue, period_at, seat_of, position_of_writer, publish_moments, HasCaptured-none}
+use Rattle.card_sim.specs.Prelude.{PublishesBoth}
 use Rattle.card_player.specs.DueLaws.{IsDue-past, is_multiple-before}
-use Rattle.card_player.specs.PlayLaws.{HasPlayed-none}
-use Rattle.card_player.specs.Plays.{IsDue, frame_of, is_multiple, period_at, seat_of}
-use Rattle.snoop_table.specs.declared.seats.writer.WriterSeat.{WriterSeat}
-use Rattle.card_sim.specs.Moments.{position_of_writer, publish_moments}
-use Rattle.card_sim.specs.RunLaws.{HasCaptured-none}
-use Rattle.card_sim.specs.Runs.{PublishesBoth}
 use Rattle.card_sim.proofs.run.publish_period.Goals as goal
 
 pub returns-then-next-due-clause-publishes : goal.returns-then-next-due-clause-publishes

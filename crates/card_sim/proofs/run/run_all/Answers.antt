@@ -1,17 +1,10 @@
-use Rattle.std.proofs.Common.{◌≡◌, ◌*◌, ◌+◌, ◌&&◌, ◌≤◌, ◌<◌, ℕ, ℤ, List, [], length, take, drop, nat_lt, ◌∙◌, arith, subst, sym, ap}
+use Rattle.card_sim.specs.Prelude.{ap, arith, drop, length, List, nat_lt, subst, sym, take, ℕ, ℤ, [], ◌&&◌, ◌*◌, ◌+◌, ◌<◌, ◌∙◌, ◌≡◌, ◌≤◌, Cursor, end_frame}
+use Rattle.card_sim.specs.Prelude.{last_number, WriterSeat, CardPlayer, HasFilled, HasFilled-more, ends_period, first_samples, frame_of, geometry_of}
+use Rattle.card_sim.specs.Prelude.{is_multiple, IsDue, periods_to, seat_of, moments_to, position_of_writer, HasCaptured-more, RunsFrames-ended}
+use Rattle.card_sim.specs.Prelude.{RunsFrames-published, HasCaptured}
 use Rattle.std.proofs.lemmas.Nat.{mul-le}
-use Rattle.snd_base.specs.declared.places.Cursor.{Cursor}
-use Rattle.snd_base.specs.Places.{end_frame}
 use Rattle.sum_table.specs.declared.view.Key.{Key}
-use Rattle.card_player.specs.declared.player.CardPlayer.{CardPlayer}
-use Rattle.card_player.specs.FillLaws.{HasFilled, HasFilled-more}
-use Rattle.card_player.specs.Plays.{IsDue, ends_period, frame_of, geometry_of, is_multiple, periods_to, first_samples, seat_of}
-use Rattle.card_sim.specs.RunLaws.{HasCaptured-more, RunsFrames-ended, RunsFrames-published}
-use Rattle.card_sim.specs.Runs.{HasCaptured}
-use Rattle.snoop_table.specs.declared.seats.writer.WriterSeat.{WriterSeat}
-use Rattle.card_sim.specs.Moments.{moments_to, position_of_writer}
 use Rattle.card_sim.proofs.Watching.{position_of_writer-captured, saw-ended, saw-more, saw-published}
-use Rattle.ring_rule.specs.Positions.{last_number}
 use Rattle.card_sim.proofs.run.run_all.Goals as goal
 
 -- a frame's samples are among those of all frames

@@ -1,9 +1,5 @@
-use Rattle.std.proofs.Common.{◌+◌, ◌*◌, take}
-use Rattle.card_player.specs.FillLaws.{HasFilled}
-use Rattle.card_player.specs.Plays.{IsDue, frame_of, geometry_of, periods_to, seat_of}
-use Rattle.card_sim.specs.Moments.{moments_to, position_of_writer}
-use Rattle.card_sim.specs.Runs.{HasCaptured}
-use Rattle.card_sim.specs.Steps.{AreInStep}
+use Rattle.card_sim.specs.Prelude.{take, ◌*◌, ◌+◌, HasFilled, frame_of, geometry_of, IsDue, periods_to, seat_of, moments_to, position_of_writer, HasCaptured}
+use Rattle.card_sim.specs.Prelude.{AreInStep}
 use Rattle.card_sim.proofs.run.run_all.Given as goal
 
 abbrev pub invariant-loop-frame : goal.invariant-loop-frame

@@ -1,16 +1,8 @@
-use Rattle.std.proofs.Common.{◌≡◌, ◌+◌, ◌-◌, ℕ, ℤ, List, [], take, drop, arith, ap, refl, subst, sym, ◌∙◌}
-use Rattle.std.specs.Prelude.{slice_range}
+use Rattle.card_sim.specs.Prelude.{ap, arith, drop, List, refl, subst, sym, take, ℕ, ℤ, [], ◌+◌, ◌-◌, ◌∙◌, ◌≡◌, Cursor, next_of_player, WriterSeat, next_frame}
+use Rattle.card_sim.specs.Prelude.{CardPlayer, at_frame, frame_of, geometry_of, seat_of, moment_of, position_of_writer, HasCaptured-stored, HasCaptured}
 use Rattle.std.proofs.lemmas.List.{drop-take}
-use Rattle.snd_base.specs.declared.places.Cursor.{Cursor}
+use Rattle.std.specs.Prelude.{slice_range}
 use Rattle.sum_table.specs.declared.view.Key.{Key}
-use Rattle.sum_table.specs.Players.{next_of_player}
-use Rattle.card_player.specs.declared.player.CardPlayer.{CardPlayer}
-use Rattle.card_player.specs.Plays.{at_frame, frame_of, geometry_of, seat_of}
-use Rattle.snoop_table.specs.declared.seats.writer.WriterSeat.{WriterSeat}
-use Rattle.snoop_table.specs.Writers.{next_frame}
-use Rattle.card_sim.specs.Moments.{moment_of, position_of_writer}
-use Rattle.card_sim.specs.RunLaws.{HasCaptured-stored}
-use Rattle.card_sim.specs.Runs.{HasCaptured}
 use Rattle.card_sim.proofs.Watching.{moment_of-at, position_of_writer-captured, saw-both}
 use Rattle.card_sim.proofs.run.run_frame.Goals as goal
 

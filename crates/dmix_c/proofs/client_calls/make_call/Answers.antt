@@ -1,14 +1,10 @@
-use Rattle.std.proofs.Common.{[], refl}
-use Rattle.std.proofs.lemmas.Bool.{false≢true}
-use Rattle.mix_core.specs.declared.gate.NeverStops.{NeverStops}
-use Rattle.pcm_states.specs.declared.calls.Call.TheVariants as call
-use Rattle.sum_table.specs.Seats.{seat_view}
-use Rattle.dmix_client.specs.Calls.{after_drop, after_hw_free, after_prepare, avail_answer, delay_answer}
-use Rattle.dmix_client.specs.EachCall.{drain-done, number-counted, pause-done, resume-done, rewind-counted, rewindable-counted, start-done}
-use Rattle.dmix_c.specs.declared.client_calls.ClientCall.TheVariants as asked
+use Rattle.dmix_c.specs.Prelude.{refl, [], false≢true, NeverStops, seat_view, after_drop, after_hw_free, after_prepare, avail_answer, delay_answer, drain-done}
+use Rattle.dmix_c.specs.Prelude.{number-counted, pause-done, resume-done, rewind-counted, rewindable-counted, start-done}
 use Rattle.dmix_c.proofs.Backing.{backed-back, backed-grows, backed-new, backed-paused, standing-held, still-set_up}
 use Rattle.dmix_c.proofs.Making.{done-taken, made-plain, made-stepping}
 use Rattle.dmix_c.proofs.Unstopped.{unstopped, unstopped-base, unstopped-number, unstopped-rewind}
+use Rattle.pcm_states.specs.declared.calls.Call.TheVariants as call
+use Rattle.dmix_c.specs.declared.client_calls.ClientCall.TheVariants as asked
 use Rattle.dmix_c.proofs.client_calls.make_call.Goals as goal
 
 abbrev gate : NeverStops

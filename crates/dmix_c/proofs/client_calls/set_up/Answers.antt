@@ -1,20 +1,9 @@
-use Rattle.std.proofs.Common.{◌≡◌, ◌*◌, ◌∙◌, [], length, refl, replicate, subst, sym}
-use Rattle.std.specs.Prelude.{ℕ, OnOk, Option, pos}
-use Rattle.std.proofs.lemmas.Bool.{false≢true}
-use Rattle.snd_base.specs.declared.errors.PcmError.{PcmError}
-use Rattle.hw_space.specs.declared.config.Config.{Config}
-use Rattle.pcm_states.specs.declared.calls.Call.TheVariants as call
-use Rattle.pcm_stream.specs.declared.direction.Direction.TheVariants.{Playback}
-use Rattle.pcm_stream.specs.Status.{refusal_of}
+use Rattle.dmix_c.specs.Prelude.{length, refl, replicate, subst, sym, ℕ, [], ◌*◌, ◌∙◌, ◌≡◌, false≢true, OnOk, Option, pos, PcmError, Config, Playback}
+use Rattle.dmix_c.specs.Prelude.{passed-on, refusal-of_err, refusal-of_ok, refusal_of, ClientView, IsBackedSeat, set_up_with, CanConfigure, CanSetUp}
 use Rattle.dmix_client.specs.Calls.{configured_with}
-use Rattle.dmix_client.specs.View.{ClientView}
-use Rattle.dmix_c.specs.Backed.{IsBackedSeat}
-use Rattle.dmix_c.specs.Params.{CanConfigure}
-use Rattle.dmix_c.specs.ClientCalls.{set_up_with}
-use Rattle.dmix_c.specs.SettingUp.{CanSetUp}
 use Rattle.dmix_c.proofs.Backing.{backed-new}
-use Rattle.pcm_stream.specs.RefusalLaws.{passed-on, refusal-of_err, refusal-of_ok}
 use Rattle.dmix_c.proofs.SettingUp.{SetsUp-done, SetsUp-refused, SetsUp-unbound, SetsUp-unfit, kept-by}
+use Rattle.pcm_states.specs.declared.calls.Call.TheVariants as call
 use Rattle.dmix_c.proofs.client_calls.set_up.Goals as goal
 
 -- why a client's state refuses hardware parameters

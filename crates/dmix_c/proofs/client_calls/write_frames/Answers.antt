@@ -1,15 +1,9 @@
-use Rattle.std.proofs.Common.{ℕ, subst, sym}
-use Rattle.std.proofs.Math.Logic.{∥∥₁_map}
-use Rattle.std.specs.Prelude.{Result}
-use Rattle.snd_base.specs.declared.errors.PcmError.{PcmError}
-use Rattle.pcm_states.specs.declared.calls.Call.TheVariants as call
-use Rattle.dmix_client.specs.EachCall.{write-counted}
+use Rattle.dmix_c.specs.Prelude.{subst, sym, ℕ, ∥∥₁_map, Result, PcmError, write-counted, Writes, TakesAt-goes}
 use Rattle.dmix_client.specs.Writes.{frames_in}
-use Rattle.dmix_c.specs.SeatPort.{TakesAt-goes}
-use Rattle.dmix_c.specs.ClientCalls.{Writes}
 use Rattle.dmix_c.proofs.Backing.{backed-written, still-set_up}
 use Rattle.dmix_c.proofs.Settled.{settled}
 use Rattle.dmix_c.proofs.Unstopped.{unstopped, unstopped-by, unstopped-write}
+use Rattle.pcm_states.specs.declared.calls.Call.TheVariants as call
 use Rattle.dmix_c.proofs.client_calls.write_frames.Goals as goal
 
 -- what the client's own call says

@@ -1,11 +1,10 @@
-use Rattle.std.proofs.Common.{refl}
-use Rattle.mix_core.specs.declared.gate.NeverStops.{NeverStops}
-use Rattle.pcm_states.specs.declared.calls.Call.TheVariants as call
-use Rattle.pcm_states.specs.declared.states.State.TheVariants as state
-use Rattle.dsnoop_client.specs.Calls.{after_hw_free, in_state}
-use Rattle.dmix_c.specs.declared.reader_calls.ReaderCall.TheVariants as asked
+use Rattle.dmix_c.specs.Prelude.{refl, NeverStops, in_state}
+use Rattle.dsnoop_client.specs.Calls.{after_hw_free}
 use Rattle.dmix_c.proofs.ReaderMaking.{reader-made-by, reader-made-plain, reader_done-taken}
 use Rattle.dmix_c.proofs.Unstopped.{reader-unstopped}
+use Rattle.pcm_states.specs.declared.calls.Call.TheVariants as call
+use Rattle.pcm_states.specs.declared.states.State.TheVariants as state
+use Rattle.dmix_c.specs.declared.reader_calls.ReaderCall.TheVariants as asked
 use Rattle.dmix_c.proofs.reader_calls.make_call.Goals as goal
 
 abbrev gate : NeverStops

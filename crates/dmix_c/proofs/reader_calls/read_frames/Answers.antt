@@ -1,8 +1,4 @@
-use Rattle.std.proofs.Common.{ℕ, subst, sym}
-use Rattle.std.specs.Prelude.{Result}
-use Rattle.snd_base.specs.declared.errors.PcmError.{PcmError}
-use Rattle.dmix_c.specs.ReaderCalls.{ReadsAt}
-use Rattle.dmix_c.specs.ReaderPort.{TakesAtSnoop-goes}
+use Rattle.dmix_c.specs.Prelude.{subst, sym, ℕ, Result, PcmError, ReadsAt, TakesAtSnoop-goes}
 use Rattle.dmix_c.proofs.Unstopped.{reader-unstopped}
 use Rattle.dmix_c.proofs.reader_calls.read_frames.Goals as goal
 

@@ -1,18 +1,7 @@
-use Rattle.std.proofs.Common.{◌≡◌, ◌∙◌, ◌<◌, ap, arith, refl, subst, sym}
-use Rattle.std.specs.Prelude.{All, ℕ, OnOk, Option}
-use Rattle.std.proofs.lemmas.Bool.{false≢true}
-use Rattle.snd_base.specs.declared.errors.PcmError.{PcmError}
-use Rattle.snd_base.specs.declared.geometry.Geometry.{Geometry}
-use Rattle.hw_space.specs.declared.config.Config.{Config}
-use Rattle.pcm_states.specs.declared.calls.Call.TheVariants as call
-use Rattle.pcm_stream.specs.declared.direction.Direction.TheVariants.{Capture}
-use Rattle.pcm_stream.specs.Status.{refusal_of}
-use Rattle.dsnoop_client.specs.declared.stream.CaptureStream.{CaptureStream}
-use Rattle.dsnoop_client.specs.Calls.{configured_with}
-use Rattle.dmix_c.specs.Params.{CanConfigure}
-use Rattle.dmix_c.specs.SettingUp.{CanSetUp}
-use Rattle.pcm_stream.specs.RefusalLaws.{passed-on, refusal-of_err, refusal-of_ok}
+use Rattle.dmix_c.specs.Prelude.{ap, arith, refl, subst, sym, ℕ, ◌<◌, ◌∙◌, ◌≡◌, false≢true, All, OnOk, Option, PcmError, Geometry, Config, Capture, passed-on}
+use Rattle.dmix_c.specs.Prelude.{refusal-of_err, refusal-of_ok, refusal_of, CaptureStream, configured_with, CanConfigure, CanSetUp}
 use Rattle.dmix_c.proofs.SettingUp.{SetsUp-done, SetsUp-refused, SetsUp-unbound, SetsUp-unfit}
+use Rattle.pcm_states.specs.declared.calls.Call.TheVariants as call
 use Rattle.dmix_c.proofs.reader_calls.set_up.Goals as goal
 
 -- why a reader's state refuses hardware parameters

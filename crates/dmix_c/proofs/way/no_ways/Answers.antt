@@ -1,9 +1,4 @@
-use Rattle.std.proofs.Common.{[], ◌∷◌, List, Option, None, ap, arith, length, length-append, refl, subst, sym}
-use Rattle.std.specs.declared.alloc.Global.{Global}
-use Rattle.rtrb.specs.declared.consumer.Consumer.{Consumer}
-use Rattle.sum_table.specs.declared.seats.mix.MixSeat.{MixSeat}
-use Rattle.dmix_c.specs.declared.way.OnePlace.{OnePlace}
-use Rattle.dmix_c.specs.Ways.{AreNone}
+use Rattle.dmix_c.specs.Prelude.{ap, arith, length, length-append, List, refl, subst, sym, [], ◌∷◌, None, Option, Global, Consumer, MixSeat, OnePlace, AreNone}
 use Rattle.dmix_c.proofs.Ringed.{AreNone-more}
 use Rattle.dmix_c.proofs.way.no_ways.Goals as goal
 

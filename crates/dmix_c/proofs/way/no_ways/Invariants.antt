@@ -1,5 +1,4 @@
-use Rattle.std.proofs.Common.{◌≡◌, length}
-use Rattle.dmix_c.specs.Ways.{AreNone}
+use Rattle.dmix_c.specs.Prelude.{length, ◌≡◌, AreNone}
 use Rattle.dmix_c.proofs.way.no_ways.Given as goal
 
 abbrev pub invariant-loop-place : goal.invariant-loop-place

@@ -1,6 +1,4 @@
-use Rattle.std.proofs.Common.{◌≡◌, ◌∙◌, ℕ, List, ap, arith, length, rules, sym}
-use Rattle.std.specs.Prelude.{slice_index}
-use Rattle.bindings.specs.Bound.{AreBindings, rising}
+use Rattle.dmix_client.specs.Prelude.{ap, arith, length, List, rules, sym, ℕ, ◌∙◌, ◌≡◌, slice_index, AreBindings, rising}
 use Rattle.dmix_client.proofs.Frames.{rising-single}
 use Rattle.dmix_client.proofs.commit.bound_sample.Goals.{then-channels-eq1, else-channels-eq1}
 use Rattle.dmix_client.proofs.commit.bound_sample.Goals as goal

@@ -1,10 +1,4 @@
-use Rattle.std.proofs.Common.{ℕ, ◌+◌, ◌≤◌, length, refl, subst, arith}
-use Rattle.mix_core.specs.declared.port.Ended.{Ended}
-use Rattle.mix_core.specs.Port.{OnWhole}
-use Rattle.snd_base.specs.Places.{first_free}
-use Rattle.dmix_client.specs.Port.{IsCommit, least_channel}
-use Rattle.dmix_client.specs.CourseLaws.{TakesAt-frames}
-use Rattle.dmix_client.specs.View.{ring_sample}
+use Rattle.dmix_client.specs.Prelude.{arith, length, refl, subst, ℕ, ◌+◌, ◌≤◌, first_free, Ended, OnWhole, TakesAt-frames, IsCommit, least_channel, ring_sample}
 use Rattle.dmix_client.proofs.CallLaws.{both}
 use Rattle.dmix_client.proofs.Frames.{marks-joined}
 use Rattle.dmix_client.proofs.Laying.{RestFrames-all, RestFrames-none, RestFrames-run, RestFrames-run_ended}

@@ -1,7 +1,4 @@
-use Rattle.std.proofs.Common.{◌≡◌, ◌+◌, ◌-◌, ◌≤◌}
-use Rattle.snd_base.specs.Places.{IsFrom}
-use Rattle.dmix_client.specs.Port.{least_channel}
-use Rattle.dmix_client.specs.View.{ring_sample}
+use Rattle.dmix_client.specs.Prelude.{◌+◌, ◌-◌, ◌≡◌, ◌≤◌, IsFrom, least_channel, ring_sample}
 use Rattle.dmix_client.proofs.Laying.{RestFrames}
 use Rattle.dmix_client.proofs.commit.lay_frames.Given as goal
 

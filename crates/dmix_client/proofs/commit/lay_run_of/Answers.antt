@@ -1,15 +1,5 @@
-use Rattle.std.proofs.Common.{◌≡◌, ◌∙◌, ℕ, ◌+◌, ◌*◌, ◌%◌, ◌<◌, ap, length, refl, subst, sym, arith}
-use Rattle.mix_core.specs.declared.port.Ended.{Ended}
-use Rattle.mix_core.specs.declared.port.Ended.TheVariants.{Whole}
-use Rattle.mix_core.specs.Port.{PortView}
-use Rattle.course.specs.AtPort.{TakesAt}
-use Rattle.bindings.specs.Bound.{rising}
-use Rattle.dmix_client.specs.Course.{lay_frame}
-use Rattle.dmix_client.specs.CourseLaws.{TakesAt-frame}
-use Rattle.dmix_client.specs.Port.{least_channel, IsOnCard}
-use Rattle.dmix_client.specs.RingLaws.{slot-within}
-use Rattle.dmix_client.specs.View.{ring_sample}
-use Rattle.snd_base.specs.declared.geometry.Geometry.{Geometry}
+use Rattle.dmix_client.specs.Prelude.{ap, arith, length, refl, subst, sym, ℕ, ◌%◌, ◌*◌, ◌+◌, ◌<◌, ◌∙◌, ◌≡◌, Geometry, rising, Ended, Whole, PortView, TakesAt}
+use Rattle.dmix_client.specs.Prelude.{lay_frame, TakesAt-frame, IsOnCard, least_channel, slot-within, ring_sample}
 use Rattle.dmix_client.proofs.CallLaws.{both}
 use Rattle.dmix_client.proofs.Frames.{IsFrom-next, marks-joined, slot-run}
 use Rattle.dmix_client.proofs.Laying.{RestFrames-all, RestFrames-ended, RestFrames-next, RestFrames-none, TakesAt-ring_sample}

@@ -1,13 +1,8 @@
-use Rattle.std.proofs.Common.{refl, subst, ◌∙◌, ap}
-use Rattle.std.specs.Prelude.{Some}
-use Rattle.mix_core.specs.Port.{load_of, PortView}
-use Rattle.course.specs.AtPort.{LoadsAt}
-use Rattle.dmix_client.specs.Calls.{sync_count}
-use Rattle.dmix_client.specs.CourseLaws.{TakesAt-looks}
+use Rattle.dmix_client.specs.Prelude.{ap, refl, subst, ◌∙◌, Some, load_of, PortView, LoadsAt, sync_count, TakesAt-looks}
 use Rattle.dmix_client.proofs.CallLaws.{both}
+use Rattle.dmix_client.proofs.Looking.{looks-none, looks-some}
 use Rattle.dmix_client.proofs.Readiness.{IsOnCard-configured}
 use Rattle.dmix_client.proofs.Sound.{configured-moving}
-use Rattle.dmix_client.proofs.Looking.{looks-none, looks-some}
 use Rattle.dmix_client.proofs.commit.look_and_commit.Goals as goal
 
 pub returns-in_default-clause-takes : goal.returns-in_default-clause-takes

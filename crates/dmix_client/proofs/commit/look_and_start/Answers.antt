@@ -1,16 +1,9 @@
-use Rattle.std.proofs.Common.{refl, subst, ◌∙◌, ap, ◌≡◌, ◌≤◌, ◌*◌, length, sym}
-use Rattle.std.specs.Prelude.{Some}
-use Rattle.mix_core.specs.Port.{load_of, PortView}
-use Rattle.pcm_states.specs.declared.states.State.TheVariants.{Running}
-use Rattle.course.specs.AtPort.{LoadsAt}
-use Rattle.dmix_client.specs.Calls.{start_count, started_in}
-use Rattle.dmix_client.specs.CourseLaws.{TakesAt-looks}
-use Rattle.dmix_client.specs.declared.stream.PlaybackStream.{PlaybackStream}
-use Rattle.dmix_client.specs.Port.{IsOnCard}
+use Rattle.dmix_client.specs.Prelude.{ap, length, refl, subst, sym, ◌*◌, ◌∙◌, ◌≡◌, ◌≤◌, Some, Running, load_of, PortView, LoadsAt, PlaybackStream, start_count}
+use Rattle.dmix_client.specs.Prelude.{started_in, TakesAt-looks, IsOnCard}
 use Rattle.dmix_client.proofs.CallLaws.{both}
+use Rattle.dmix_client.proofs.Looking.{looks-none, looks-some}
 use Rattle.dmix_client.proofs.Readiness.{IsOnCard-configured}
 use Rattle.dmix_client.proofs.Sound.{configured-prepared}
-use Rattle.dmix_client.proofs.Looking.{looks-none, looks-some}
 use Rattle.dmix_client.proofs.commit.look_and_start.Goals as goal
 
 pub returns-in_default-clause-takes : goal.returns-in_default-clause-takes

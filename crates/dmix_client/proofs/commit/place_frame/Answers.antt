@@ -1,22 +1,11 @@
-use Rattle.std.proofs.Common.{◌≡◌, ◌∙◌, ℕ, ◌+◌, ◌<◌, SFits, ap, sym, refl, rules, subst, arith, length, of_z, to_z, to_z-of_z, w16}
-use Rattle.std.specs.Prelude.{ℤ, Result, slice_index}
-use Rattle.snd_base.specs.declared.errors.PcmError.{PcmError}
-use Rattle.snd_base.specs.Places.{IsFrom, end_frame, lap}
-use Rattle.mix_core.specs.declared.gate.Gate as gates
-use Rattle.mix_core.specs.declared.port.Ended.{Ended}
-use Rattle.mix_core.specs.declared.port.Ended.TheVariants.{Whole}
-use Rattle.mix_core.specs.declared.port.MixPort as mixport
-use Rattle.mix_core.specs.declared.port.Placed.{Placed}
-use Rattle.mix_core.specs.Laid.{an_add}
-use Rattle.mix_core.specs.Port.{PortView, ended_of}
-use Rattle.course.specs.AtPort.{LaysAt, TakesAt}
-use Rattle.bindings.specs.Bound.{rising}
-use Rattle.bindings.specs.RisingLaws.{length-rising, rising-rises, rising-within}
-use Rattle.dmix_client.specs.Course.{lay_frame}
-use Rattle.dmix_client.specs.View.{slot_sample}
+use Rattle.dmix_client.specs.Prelude.{ap, arith, length, of_z, refl, rules, SFits, subst, sym, to_z, to_z-of_z, w16, ℕ, ◌+◌, ◌<◌, ◌∙◌, ◌≡◌, Result, slice_index}
+use Rattle.dmix_client.specs.Prelude.{ℤ, PcmError, end_frame, IsFrom, lap, rising, length-rising, rising-rises, rising-within, Ended, Whole, Placed, an_add}
+use Rattle.dmix_client.specs.Prelude.{ended_of, PortView, LaysAt, TakesAt, lay_frame, slot_sample}
 use Rattle.dmix_client.proofs.CallLaws.{both}
 use Rattle.dmix_client.proofs.Frames.{IsFrom-later, behind-later, entry-bound, lap-below, marks-joined, rising-least}
 use Rattle.dmix_client.proofs.Laying.{Rest-all, Rest-ended, Rest-next, Rest-none}
+use Rattle.mix_core.specs.declared.gate.Gate as gates
+use Rattle.mix_core.specs.declared.port.MixPort as mixport
 use Rattle.dmix_client.proofs.commit.place_frame.Goals as goal
 
 pub loop-place-init : goal.loop-place-init

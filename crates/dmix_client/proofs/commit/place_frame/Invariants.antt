@@ -1,8 +1,4 @@
-use Rattle.std.proofs.Common.{◌≡◌, ℕ, ◌<◌, ◌≤◌, length}
-use Rattle.std.specs.Prelude.{slice_index}
-use Rattle.snd_base.specs.Places.{IsFrom}
-use Rattle.bindings.specs.Bound.{AreBindings, rising}
-use Rattle.dmix_client.specs.View.{slot_sample}
+use Rattle.dmix_client.specs.Prelude.{length, ℕ, ◌<◌, ◌≡◌, ◌≤◌, slice_index, IsFrom, AreBindings, rising, slot_sample}
 use Rattle.dmix_client.proofs.Laying.{Rest}
 use Rattle.dmix_client.proofs.commit.place_frame.Given as goal
 

@@ -1,5 +1,4 @@
-use Rattle.std.proofs.Common.{◌%◌, ◌∙◌}
-use Rattle.std.proofs.Math.Nat.{add-mod-mod, mod-add-mod}
+use Rattle.dmix_client.specs.Prelude.{◌%◌, ◌∙◌, add-mod-mod, mod-add-mod}
 use Rattle.dmix_client.proofs.commit.slot_of.Goals as goal
 
 pub returns-in-None-clause-value : goal.returns-in-None-clause-value

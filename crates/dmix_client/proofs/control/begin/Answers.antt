@@ -1,6 +1,4 @@
-use Rattle.std.proofs.Common.{subst, sym}
-use Rattle.dmix_client.specs.Calls.{Answered}
-use Rattle.dmix_client.specs.Growth.{KeepsAccepted}
+use Rattle.dmix_client.specs.Prelude.{subst, sym, Answered, KeepsAccepted}
 use Rattle.dmix_client.proofs.Ends.{KeepsAccepted-after_start}
 use Rattle.dmix_client.proofs.Looking.{starts-by}
 use Rattle.dmix_client.proofs.control.begin.Goals as goal

@@ -1,17 +1,11 @@
-use Rattle.std.proofs.Common.{refl, subst, sym, ◌≡◌, ◌∙◌}
-use Rattle.std.specs.Prelude.{Result, false, true}
-use Rattle.snd_base.specs.declared.errors.PcmError.{PcmError}
-use Rattle.pcm_states.specs.declared.calls.Call.TheVariants as call
-use Rattle.pcm_states.specs.declared.states.State.{State}
-use Rattle.pcm_stream.specs.Status.{is_moving}
+use Rattle.dmix_client.specs.Prelude.{refl, subst, sym, ◌∙◌, ◌≡◌, false, Result, true, PcmError, State, is_moving, AnySamples, Keeps, IsFrameStep}
 use Rattle.dmix_client.proofs.CallLaws.{both}
 use Rattle.dmix_client.proofs.Going.{OnOk-of, IsStill, ok-of}
 use Rattle.dmix_client.proofs.Keeping.{Keeps-then, client, drains-ill, syncs-still}
 use Rattle.dmix_client.proofs.Looking.{drains-by}
 use Rattle.dmix_client.proofs.Sound.{configured-moving, configured-prepared}
+use Rattle.pcm_states.specs.declared.calls.Call.TheVariants as call
 use Rattle.dmix_client.proofs.control.start_and_drain.Goals as goal
-use Rattle.dmix_client.specs.Growth.{AnySamples, Keeps}
-use Rattle.dmix_client.specs.Port.{IsFrameStep}
 
 pub returns-in-Err : goal.returns-in-Err
 returns-in-Err g c =

@@ -1,7 +1,4 @@
-use Rattle.std.proofs.Common.{rules, sym}
-use Rattle.course.specs.AtPort.{TakesAt}
-use Rattle.dmix_client.specs.Calls.{Answered}
-use Rattle.dmix_client.specs.Course.{resumes}
+use Rattle.dmix_client.specs.Prelude.{rules, sym, TakesAt, Answered, resumes}
 use Rattle.dmix_client.proofs.CallLaws.{both}
 use Rattle.dmix_client.proofs.Keeping.{resumes-explained, resumes-kept}
 use Rattle.dmix_client.proofs.Looking.{resumes-by}

@@ -1,14 +1,7 @@
-use Rattle.std.proofs.Common.{◌≡◌, ◌≤◌, ◌∙◌, ℕ, ap, refl, subst, sym}
-use Rattle.std.specs.Prelude.{Err, min}
-use Rattle.snd_base.specs.declared.places.Cursor.{Cursor}
-use Rattle.mix_core.specs.declared.marks.Marks.{Marks}
-use Rattle.pcm_states.specs.declared.states.State.TheVariants.{Running}
-use Rattle.course.specs.AtPort.{TakesAt}
-use Rattle.dmix_client.specs.Rewind.{rewindable_of, takes_back}
-use Rattle.dmix_client.specs.View.{IsGoing}
+use Rattle.dmix_client.specs.Prelude.{ap, refl, subst, sym, ℕ, ◌∙◌, ◌≡◌, ◌≤◌, Err, min, Cursor, Running, Marks, TakesAt, rewindable_of, takes_back, IsGoing}
 use Rattle.dmix_client.proofs.CallLaws.{both}
-use Rattle.dmix_client.proofs.Rewinding.{holds-by, few-of, checks-kept, rewinds-by, rewinds-kept, standing-checked}
 use Rattle.dmix_client.proofs.Going.{OnOk-of, ok-of}
+use Rattle.dmix_client.proofs.Rewinding.{holds-by, few-of, checks-kept, rewinds-by, rewinds-kept, standing-checked}
 use Rattle.dmix_client.proofs.rewind.rewind_running.Goals as goal
 
 pub returns-in-Err : goal.returns-in-Err

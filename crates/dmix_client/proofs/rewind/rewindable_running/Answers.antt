@@ -1,10 +1,4 @@
-use Rattle.std.proofs.Common.{subst}
-use Rattle.std.specs.Prelude.{List, ℤ}
-use Rattle.snd_base.specs.declared.places.Cursor.{Cursor}
-use Rattle.course.specs.AtPort.{TakesAt}
-use Rattle.dmix_client.specs.Course.{course_with_number}
-use Rattle.dmix_client.specs.Rewind.{checks, rewindable_of}
-use Rattle.dmix_client.specs.View.{IsSoundClient}
+use Rattle.dmix_client.specs.Prelude.{List, subst, ℤ, Cursor, TakesAt, course_with_number, checks, rewindable_of, IsSoundClient}
 use Rattle.dmix_client.proofs.CallLaws.{both}
 use Rattle.dmix_client.proofs.Rewinding.{holds-by, numbered-by, numbered-kept}
 use Rattle.dmix_client.proofs.rewind.rewindable_running.Goals as goal

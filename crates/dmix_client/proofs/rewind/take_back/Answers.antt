@@ -1,7 +1,4 @@
-use Rattle.std.proofs.Common.{rules, ◌-◌, ℕ, length, refl, subst, sym, arith}
-use Rattle.dmix_client.specs.Expansion.{run_entries}
-use Rattle.dmix_client.specs.Rewind.{back_of}
-use Rattle.dmix_client.specs.View.{IsMoving, ring_sample}
+use Rattle.dmix_client.specs.Prelude.{arith, length, refl, rules, subst, sym, ℕ, ◌-◌, run_entries, back_of, IsMoving, ring_sample}
 use Rattle.dmix_client.proofs.CallLaws.{both}
 use Rattle.dmix_client.proofs.Rewinding.{holds-by, IsBack, IsBack-of, held-last, left-few, left-part, take_frames-took, takes_back-by}
 use Rattle.dmix_client.proofs.rewind.take_back.Goals as goal

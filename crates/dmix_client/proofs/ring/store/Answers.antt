@@ -1,9 +1,5 @@
-use Rattle.std.proofs.Common.{◌≡◌, ℕ, ◌+◌, ◌-◌, ◌*◌, ◌%◌, ◌≤◌, ◌∙◌, List, ap, arith, drop, sym, take}
-use Rattle.std.proofs.Math.Nat.{mul-le-mul_right}
-use Rattle.std.proofs.lemmas.Bool.Decides.{nat_tests}
-use Rattle.std.specs.Prelude.{ℤ}
-use Rattle.dmix_client.specs.Ring.{with_frames, written_over}
-use Rattle.dmix_client.specs.RingLaws.{stored-run}
+use Rattle.dmix_client.specs.Prelude.{ap, arith, drop, List, sym, take, ℕ, ◌%◌, ◌*◌, ◌+◌, ◌-◌, ◌∙◌, ◌≡◌, ◌≤◌, mul-le-mul_right, nat_tests, ℤ, with_frames}
+use Rattle.dmix_client.specs.Prelude.{written_over, stored-run}
 use Rattle.dmix_client.proofs.ring.store.Goals as goal
 
 pub loop-done-preserved : goal.loop-done-preserved

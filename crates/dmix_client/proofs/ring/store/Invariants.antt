@@ -1,5 +1,4 @@
-use Rattle.std.proofs.Common.{◌≡◌, ◌-◌, ◌≤◌}
-use Rattle.dmix_client.specs.Ring.{with_frames}
+use Rattle.dmix_client.specs.Prelude.{◌-◌, ◌≡◌, ◌≤◌, with_frames}
 use Rattle.dmix_client.proofs.ring.store.Given as goal
 
 abbrev pub invariant-loop-done : goal.invariant-loop-done

@@ -1,6 +1,4 @@
-use Rattle.std.proofs.Common.{sym}
-use Rattle.course.specs.AtPort.{TakesAt}
-use Rattle.dmix_client.specs.Course.{syncs}
+use Rattle.dmix_client.specs.Prelude.{sym, TakesAt, syncs}
 use Rattle.dmix_client.proofs.CallLaws.{both}
 use Rattle.dmix_client.proofs.Keeping.{syncs-explained, syncs-kept}
 use Rattle.dmix_client.proofs.Looking.{syncs-by}

@@ -1,23 +1,11 @@
-use Rattle.std.proofs.Common.{◌≡◌, ℕ, ◌+◌, ◌-◌, ◌∙◌, SFits, ap, sym, subst, arith, of_z, rules, to_z, to_z-of_z, w16}
-use Rattle.std.specs.Prelude.{ℤ, [], ◌∷◌, Result, slice_index}
-use Rattle.snd_base.specs.declared.errors.PcmError.{PcmError}
-use Rattle.snd_base.specs.declared.places.Cursor.{Cursor}
-use Rattle.snd_base.specs.Places.{IsFrom}
-use Rattle.mix_core.specs.declared.gate.Gate as gates
-use Rattle.mix_core.specs.declared.port.Ended.{Ended}
-use Rattle.mix_core.specs.declared.port.Ended.TheVariants.{Whole}
-use Rattle.mix_core.specs.declared.port.MixPort as mixport
-use Rattle.mix_core.specs.declared.port.Placed.{Placed}
-use Rattle.mix_core.specs.Laid.{a_withdrawal, an_add}
-use Rattle.mix_core.specs.Port.{PortView, ended_of}
-use Rattle.course.specs.AtPort.{LaysAt}
-use Rattle.bindings.specs.Bound.{rising}
-use Rattle.dmix_client.specs.Expansion.{frame_entries}
-use Rattle.dmix_client.specs.Port.{least_channel}
-use Rattle.dmix_client.specs.View.{ring_sample}
+use Rattle.dmix_client.specs.Prelude.{ap, arith, of_z, rules, SFits, subst, sym, to_z, to_z-of_z, w16, ℕ, [], ◌+◌, ◌-◌, ◌∙◌, ◌∷◌, ◌≡◌, Result, slice_index, ℤ}
+use Rattle.dmix_client.specs.Prelude.{PcmError, Cursor, IsFrom, rising, Ended, Whole, Placed, a_withdrawal, an_add, ended_of, PortView, LaysAt, frame_entries}
+use Rattle.dmix_client.specs.Prelude.{least_channel, ring_sample}
 use Rattle.dmix_client.proofs.CallLaws.{both}
 use Rattle.dmix_client.proofs.Frames.{IsFrom-later, entry-ring_sample, rising-least}
 use Rattle.dmix_client.proofs.Withdrawing.{Back-all, Back-ended, Back-next, stands-last}
+use Rattle.mix_core.specs.declared.gate.Gate as gates
+use Rattle.mix_core.specs.declared.port.MixPort as mixport
 use Rattle.dmix_client.proofs.withdraw.take_frame.Goals as goal
 
 -- the step of a withdrawal, with the sample as it is, by how it ended

@@ -1,9 +1,4 @@
-use Rattle.std.proofs.Common.{◌≡◌, ◌≤◌, ◌+◌, length}
-use Rattle.snd_base.specs.Places.{IsFrom}
-use Rattle.bindings.specs.Bound.{AreBindings}
-use Rattle.dmix_client.specs.Expansion.{frame_entries}
-use Rattle.dmix_client.specs.Port.{least_channel}
-use Rattle.dmix_client.specs.View.{ring_sample}
+use Rattle.dmix_client.specs.Prelude.{length, ◌+◌, ◌≡◌, ◌≤◌, IsFrom, AreBindings, frame_entries, least_channel, ring_sample}
 use Rattle.dmix_client.proofs.Withdrawing.{Back}
 use Rattle.dmix_client.proofs.withdraw.take_frame.Given as goal
 

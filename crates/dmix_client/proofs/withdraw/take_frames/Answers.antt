@@ -1,17 +1,5 @@
-use Rattle.std.proofs.Common.{◌≡◌, ℕ, ◌+◌, ◌-◌, ◌∙◌, ◌++◌, ap, sym, subst, arith, length}
-use Rattle.std.proofs.lemmas.List.{append-nil}
-use Rattle.snd_base.specs.declared.geometry.Geometry.{Geometry}
-use Rattle.snd_base.specs.declared.places.Cursor.{Cursor}
-use Rattle.snd_base.specs.Places.{IsFrom}
-use Rattle.mix_core.specs.declared.port.Ended.{Ended}
-use Rattle.mix_core.specs.declared.port.Ended.TheVariants.{Whole}
-use Rattle.mix_core.specs.Port.{PortView}
-use Rattle.course.specs.AtPort.{TakesAt}
-use Rattle.dmix_client.specs.declared.commit.Commit.{Commit}
-use Rattle.dmix_client.specs.Expansion.{frame_entries, run_entries}
-use Rattle.dmix_client.specs.Port.{IsOnCard, least_channel}
-use Rattle.dmix_client.specs.Rewind.{take_each, take_frames}
-use Rattle.dmix_client.specs.View.{ring_sample}
+use Rattle.dmix_client.specs.Prelude.{ap, arith, length, subst, sym, ℕ, ◌++◌, ◌+◌, ◌-◌, ◌∙◌, ◌≡◌, append-nil, Geometry, Cursor, IsFrom, Ended, Whole, PortView}
+use Rattle.dmix_client.specs.Prelude.{TakesAt, Commit, frame_entries, run_entries, IsOnCard, least_channel, take_each, take_frames, ring_sample}
 use Rattle.dmix_client.proofs.CallLaws.{both}
 use Rattle.dmix_client.proofs.Withdrawing.{BackFrames-all, BackFrames-ended, BackFrames-next, HoldsBy, TakesAt-took, stands-run}
 use Rattle.dmix_client.proofs.withdraw.take_frames.Goals as goal

@@ -1,8 +1,4 @@
-use Rattle.std.proofs.Common.{◌≡◌, ◌+◌, ◌-◌, ◌≤◌}
-use Rattle.snd_base.specs.Places.{IsFrom}
-use Rattle.dmix_client.specs.Expansion.{run_entries}
-use Rattle.dmix_client.specs.Port.{IsOnCard, least_channel}
-use Rattle.dmix_client.specs.View.{ring_sample}
+use Rattle.dmix_client.specs.Prelude.{◌+◌, ◌-◌, ◌≡◌, ◌≤◌, IsFrom, run_entries, IsOnCard, least_channel, ring_sample}
 use Rattle.dmix_client.proofs.Withdrawing.{BackFrames}
 use Rattle.dmix_client.proofs.withdraw.take_frames.Given as goal
 

@@ -1,8 +1,4 @@
-use Rattle.std.proofs.Common.{sym}
-use Rattle.course.specs.AtPort.{LaysAt, LoadsAt, NoGet}
-use Rattle.course.specs.CourseLaws.{Takes-map}
-use Rattle.dmix_client.specs.Calls.{accepted_if}
-use Rattle.dmix_client.specs.Course.{starts_taking}
+use Rattle.dmix_client.specs.Prelude.{sym, LaysAt, LoadsAt, NoGet, Takes-map, accepted_if, starts_taking}
 use Rattle.dmix_client.proofs.CallLaws.{both}
 use Rattle.dmix_client.proofs.write.start_write.Goals as goal
 

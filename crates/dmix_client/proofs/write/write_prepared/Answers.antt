@@ -1,8 +1,4 @@
-use Rattle.std.proofs.Common.{rules, ◌≡◌, ◌≤◌, ℕ, arith, subst, sym}
-use Rattle.std.specs.Prelude.{IfOk, Ok, Err, Result}
-use Rattle.snd_base.specs.declared.errors.PcmError.{PcmError}
-use Rattle.dmix_client.specs.declared.stream.PlaybackStream.{PlaybackStream}
-use Rattle.dmix_client.specs.Growth.{Follows, Keeps}
+use Rattle.dmix_client.specs.Prelude.{arith, rules, subst, sym, ℕ, ◌≡◌, ◌≤◌, Err, IfOk, Ok, Result, PcmError, PlaybackStream, Follows, Keeps}
 use Rattle.dmix_client.proofs.CallLaws.{both}
 use Rattle.dmix_client.proofs.Keeping.{client, filled-kept, stored-kept}
 use Rattle.dmix_client.proofs.write.write_prepared.Goals as goal

@@ -1,18 +1,11 @@
-use Rattle.std.proofs.Common.{◌≡◌, ℕ, ◌*◌, ◌^◌, ◌<◌, ◌≤◌, List, length, refl, subst, sym}
-use Rattle.std.specs.Prelude.{Result, Err, true}
-use Rattle.snd_base.specs.declared.errors.PcmError.{PcmError}
-use Rattle.mix_core.specs.declared.port.Ended.TheVariants.{Whole}
-use Rattle.pcm_states.specs.declared.states.State.{State}
-use Rattle.pcm_states.specs.declared.calls.Call.TheVariants as call
-use Rattle.course.specs.AtPort.{TakesAt}
-use Rattle.dmix_client.specs.Course.{syncs}
-use Rattle.dmix_client.specs.Growth.{AnySamples, Keeps}
-use Rattle.pcm_stream.specs.Status.{is_moving}
+use Rattle.dmix_client.specs.Prelude.{length, List, refl, subst, sym, ℕ, ◌*◌, ◌<◌, ◌^◌, ◌≡◌, ◌≤◌, Err, Result, true, PcmError, State, is_moving, Whole, TakesAt}
+use Rattle.dmix_client.specs.Prelude.{syncs, AnySamples, Keeps}
 use Rattle.dmix_client.proofs.CallLaws.{both}
 use Rattle.dmix_client.proofs.Going.{ok-of}
-use Rattle.dmix_client.proofs.Sound.{configured-moving}
 use Rattle.dmix_client.proofs.Keeping.{client, syncs-runs, writes-explained, writes-kept}
 use Rattle.dmix_client.proofs.Looking.{writes_on-by}
+use Rattle.dmix_client.proofs.Sound.{configured-moving}
+use Rattle.pcm_states.specs.declared.calls.Call.TheVariants as call
 use Rattle.dmix_client.proofs.write.write_running.Goals as goal
 
 pub returns-in-Err-clause-takes : goal.returns-in-Err-clause-takes

@@ -1,27 +1,13 @@
-use Rattle.std.proofs.Common.{◌≡◌, ◌∙◌, ℕ, ◌+◌, ◌-◌, ◌^◌, ◌<◌, ◌≤◌, List, ap, arith, length, subst, sym}
-use Rattle.std.specs.Prelude.{ℤ, false, min, nat_eq, true, unwrap_or}
-use Rattle.snd_base.specs.declared.geometry.Geometry.{Geometry}
-use Rattle.snd_base.specs.Places.{end_frame}
-use Rattle.snd_base.specs.Relations.{Composes}
-use Rattle.mix_core.specs.declared.gate.Gate as gates
-use Rattle.mix_core.specs.declared.port.Ended.{Ended}
-use Rattle.mix_core.specs.declared.port.Ended.TheVariants.{Whole, Late, Stopped}
-use Rattle.mix_core.specs.declared.port.MixPort as mixport
-use Rattle.mix_core.specs.Port.{OnLate, PortView}
-use Rattle.course.specs.AtPort.{TakesAt}
-use Rattle.pcm_stream.specs.Status.{is_moving}
-use Rattle.dmix_client.specs.declared.commit.Commit.{Commit}
-use Rattle.dmix_client.specs.declared.stream.PlaybackStream.{PlaybackStream}
-use Rattle.dmix_client.specs.Calls.{commit_count, window_end}
-use Rattle.dmix_client.specs.Course.{commits}
-use Rattle.dmix_client.specs.CourseLaws.{TakesAt-frames}
-use Rattle.dmix_client.specs.Port.{IsCommit}
-use Rattle.dmix_client.specs.View.{IsConfigured, IsSoundClient, ring_sample}
-use Rattle.dmix_client.specs.Writes.{count_with, ring_with}
+use Rattle.dmix_client.specs.Prelude.{ap, arith, length, List, subst, sym, ℕ, ◌+◌, ◌-◌, ◌<◌, ◌^◌, ◌∙◌, ◌≡◌, ◌≤◌, false, min, nat_eq, true, unwrap_or, ℤ}
+use Rattle.dmix_client.specs.Prelude.{Geometry, end_frame, Composes, is_moving, Ended, Late, Stopped, Whole, OnLate, PortView, TakesAt, Commit, PlaybackStream}
+use Rattle.dmix_client.specs.Prelude.{commit_count, window_end, commits, TakesAt-frames, IsCommit, IsConfigured, IsSoundClient, ring_sample, count_with}
+use Rattle.dmix_client.specs.Prelude.{ring_with}
 use Rattle.dmix_client.proofs.CallLaws.{both}
-use Rattle.dmix_client.proofs.Readiness.{IsOnCard-configured, IsReady-moving}
 use Rattle.dmix_client.proofs.Looking.{takes_more-by}
+use Rattle.dmix_client.proofs.Readiness.{IsOnCard-configured, IsReady-moving}
 use Rattle.dmix_client.proofs.Sound.{configured-moving, frames-le, if-le, set_up-moving}
+use Rattle.mix_core.specs.declared.gate.Gate as gates
+use Rattle.mix_core.specs.declared.port.MixPort as mixport
 use Rattle.dmix_client.proofs.write.write_taken.Goals as goal
 
 -- frames that are to be committed are before the window's end, also where a later position was seen

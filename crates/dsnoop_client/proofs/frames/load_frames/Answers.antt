@@ -1,10 +1,5 @@
-use Rattle.std.proofs.Common.{refl, ◌≡◌, ℕ, ◌+◌, ◌-◌, ◌*◌, ◌≤◌, ◌<◌, ◌∙◌, length, arith, subst, sym}
-use Rattle.std.specs.Prelude.{All}
-use Rattle.snd_base.specs.Places.{first_frame}
-use Rattle.std.proofs.Math.Nat.{mul-le-mul_right}
-use Rattle.snoop_core.specs.declared.port.Got.TheVariants.{Whole}
-use Rattle.snoop_core.specs.Port.{Gets, SnoopView, numbered_frame}
-use Rattle.dsnoop_client.specs.Reads.{Fills}
+use Rattle.dsnoop_client.specs.Prelude.{arith, length, refl, subst, sym, ℕ, ◌*◌, ◌+◌, ◌-◌, ◌<◌, ◌∙◌, ◌≡◌, ◌≤◌, mul-le-mul_right, All, first_frame, Whole, Gets}
+use Rattle.dsnoop_client.specs.Prelude.{numbered_frame, SnoopView, Fills}
 use Rattle.dsnoop_client.proofs.CallLaws.{both}
 use Rattle.dsnoop_client.proofs.Filling.{Fills-ended, Fills-next, Fills-none}
 use Rattle.dsnoop_client.proofs.Getting.{Rest-all, Rest-ended, Rest-next, Rest-none}

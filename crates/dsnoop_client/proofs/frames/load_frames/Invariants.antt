@@ -1,6 +1,4 @@
-use Rattle.std.proofs.Common.{◌≡◌}
-use Rattle.snoop_core.specs.declared.port.Got.TheVariants.{Whole}
-use Rattle.dsnoop_client.specs.Reads.{Fills}
+use Rattle.dsnoop_client.specs.Prelude.{◌≡◌, Whole, Fills}
 use Rattle.dsnoop_client.proofs.Getting.{Rest}
 use Rattle.dsnoop_client.proofs.frames.load_frames.Given as goal
 

@@ -1,5 +1,4 @@
-use Rattle.std.proofs.Common.{◌≡◌, ℕ, ◌<◌, pos}
-use Rattle.std.specs.Prelude.{slice_index, slice_index_or}
+use Rattle.dsnoop_client.specs.Prelude.{pos, ℕ, ◌<◌, ◌≡◌, slice_index, slice_index_or}
 use Rattle.dsnoop_client.proofs.frames.put_through.Given as goal
 
 abbrev pub invariant-loop-client : goal.invariant-loop-client

@@ -1,17 +1,11 @@
-use Rattle.std.proofs.Common.{◌≡◌, ◌*◌, ◌/◌, ◌≤◌, ◌<◌, ◌∙◌, ℕ, ap, inl, inr, length, refl, subst, sym}
-use Rattle.std.specs.Prelude.{IfOk, false, true}
-use Rattle.pcm_states.specs.declared.calls.Call.TheVariants as call
+use Rattle.dsnoop_client.specs.Prelude.{ap, inl, inr, length, refl, subst, sym, ℕ, ◌*◌, ◌/◌, ◌<◌, ◌∙◌, ◌≡◌, ◌≤◌, false, IfOk, true, TakesAtSnoop, waits}
+use Rattle.dsnoop_client.specs.Prelude.{ExplainsRead, read_course, reads_on, Asks, frames_in, is_running}
 use Rattle.pcm_states.specs.declared.states.State.TheVariants.{Prepared, Running}
-use Rattle.course.specs.AtSnoopPort.{TakesAtSnoop}
-use Rattle.dsnoop_client.specs.Calls.{waits}
-use Rattle.dsnoop_client.specs.Causes.{ExplainsRead}
-use Rattle.dsnoop_client.specs.Course.{read_course, reads_on}
-use Rattle.dsnoop_client.specs.Port.{Asks}
-use Rattle.dsnoop_client.specs.View.{frames_in, is_running}
 use Rattle.dsnoop_client.proofs.CallLaws.{admitted-takes, both, never-refused}
 use Rattle.dsnoop_client.proofs.Refusing.{admitted-prepared, admitted-unstopped, running-by}
 use Rattle.dsnoop_client.proofs.Stepping.{reads-waits, reads_first-explained, reads_on-explained}
 use Rattle.dsnoop_client.proofs.Waiting.{Keeps-waits, never-loads, read-first, read-waits, waits-few}
+use Rattle.pcm_states.specs.declared.calls.Call.TheVariants as call
 use Rattle.dsnoop_client.proofs.read.read_admitted.Goals as goal
 
 pub read_running-requires : goal.read_running-requires

@@ -1,5 +1,4 @@
-use Rattle.std.proofs.Common.{length, refl}
-use Rattle.std.specs.Prelude.{Err, Ok}
+use Rattle.dsnoop_client.specs.Prelude.{length, refl, Err, Ok}
 use Rattle.dsnoop_client.proofs.CallLaws.{both}
 use Rattle.dsnoop_client.proofs.Loading.{reads_first-by}
 use Rattle.dsnoop_client.proofs.Stepping.{HasRoom-same, fits-same, reads-behind, reads-none}

@@ -1,7 +1,4 @@
-use Rattle.std.proofs.Common.{sym, subst}
-use Rattle.dsnoop_client.specs.Calls.{Answered}
-use Rattle.dsnoop_client.specs.Reads.{GivesFrames}
-use Rattle.std.proofs.Common.{ℕ}
+use Rattle.dsnoop_client.specs.Prelude.{subst, sym, ℕ, Answered, GivesFrames}
 use Rattle.dsnoop_client.proofs.CallLaws.{both}
 use Rattle.dsnoop_client.proofs.Loading.{transfers-by}
 use Rattle.dsnoop_client.proofs.Reading.{reads-of}

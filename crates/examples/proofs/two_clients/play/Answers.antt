@@ -1,6 +1,4 @@
-use Rattle.std.proofs.Common.{◌≡◌, ◌∙◌, arith, sym, subst, List, [], ◌∷◌, ◌++◌}
-use Rattle.mix_core.specs.declared.event.Taken.{Taken}
-use Rattle.examples.specs.Mixing.{HasMixed}
+use Rattle.examples.specs.Prelude.{arith, List, subst, sym, [], ◌++◌, ◌∙◌, ◌∷◌, ◌≡◌, Taken, HasMixed}
 use Rattle.examples.proofs.Mixing.{HasMixed-published, HasMixed-taken}
 use Rattle.examples.proofs.two_clients.play.Goals as goal
 

@@ -1,6 +1,4 @@
-use Rattle.std.proofs.Common.{◌≡◌, List, [], length}
-use Rattle.mix_core.specs.declared.port.Entry.{Entry}
-use Rattle.examples.specs.Mixing.{HasMixed}
+use Rattle.examples.specs.Prelude.{length, List, [], ◌≡◌, Entry, HasMixed}
 use Rattle.examples.proofs.two_clients.play.Given as goal
 
 abbrev pub invariant-loop-word : goal.invariant-loop-word

@@ -1,8 +1,4 @@
-use Rattle.std.proofs.Common.{◌∙◌, arith, sym, subst, [], ◌++◌}
-use Rattle.mix_core.specs.Turn.{core_of}
-use Rattle.mix_core.specs.View.{View}
-use Rattle.dmix_client.specs.Calls.{segment_of}
-use Rattle.examples.specs.Mixing.{HasMixed, member_entries}
+use Rattle.examples.specs.Prelude.{arith, subst, sym, [], ◌++◌, ◌∙◌, core_of, View, segment_of, HasMixed, member_entries}
 use Rattle.examples.proofs.Mixing.{Grows-fresh, HasMixed-written}
 use Rattle.examples.proofs.two_clients.write.Goals as goal
 

@@ -1,8 +1,5 @@
-use Rattle.std.proofs.Common.{◌∙◌, ap, arith, subst, [], ◌∷◌, Ok, to_z-of_z}
+use Rattle.examples.specs.Prelude.{ap, arith, Ok, subst, to_z-of_z, [], ◌∙◌, ◌∷◌, ℤ, an_add, member_of, SeatLaid}
 use Rattle.std.proofs.Math.Nat.{zero-div}
-use Rattle.std.specs.Prelude.{ℤ}
-use Rattle.mix_core.specs.Laid.{an_add}
-use Rattle.sum_table.specs.Seats.{SeatLaid, member_of}
 use Rattle.examples.proofs.Words.{SeatLaid-in_time}
 use Rattle.examples.proofs.two_threads.place_first.Goals as goal
 

@@ -1,7 +1,4 @@
-use Rattle.std.proofs.Common.{◌∙◌, ap, ap₂, SFits, rules, to_z-of_z, w16}
-use Rattle.std.specs.Prelude.{ℤ, ◌+ℤ◌}
-use Rattle.snd_base.specs.Places.{first_frame}
-use Rattle.lap_word.specs.Clamp.{clamp_of}
+use Rattle.examples.specs.Prelude.{ap, ap₂, rules, SFits, to_z-of_z, w16, ◌∙◌, ℤ, ◌+ℤ◌, first_frame, clamp_of}
 use Rattle.examples.proofs.Words.{IsRun-sum, of_ok}
 use Rattle.examples.proofs.two_threads.sum_in_threads.Goals as goal
 

@@ -1,8 +1,5 @@
-use Rattle.std.proofs.Common.{◌≡◌, ◌%◌, arith, sym, subst, drop, length, Ok}
+use Rattle.examples.specs.Prelude.{arith, drop, length, List, Ok, subst, sym, ◌%◌, ◌≡◌, ℤ, wav_file, bytes_of_pieces}
 use Rattle.std.proofs.lemmas.List.{drop_all, drop_more}
-use Rattle.std.specs.Prelude.{ℤ, List}
-use Rattle.wav_io.specs.Reading.{wav_file}
-use Rattle.examples.specs.Pieces.{bytes_of_pieces}
 use Rattle.examples.proofs.Reading.{Reads-refused, ends_whole, refused_next}
 use Rattle.examples.proofs.wav_in_pieces.read_pieces.Goals as goal
 

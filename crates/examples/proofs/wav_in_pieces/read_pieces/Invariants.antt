@@ -1,8 +1,4 @@
-use Rattle.std.proofs.Common.{◌≡◌, drop}
-use Rattle.std.specs.Prelude.{None}
-use Rattle.wav_io.specs.Reading.{wav_file}
-use Rattle.wav_io.specs.Readers.{error_of, sound_to_come, with_samples}
-use Rattle.examples.specs.Pieces.{bytes_of_pieces}
+use Rattle.examples.specs.Prelude.{drop, ◌≡◌, None, error_of, sound_to_come, with_samples, wav_file, bytes_of_pieces}
 use Rattle.examples.proofs.wav_in_pieces.read_pieces.Given as goal
 
 abbrev pub invariant-loop-piece : goal.invariant-loop-piece

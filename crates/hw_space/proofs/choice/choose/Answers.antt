@@ -1,11 +1,6 @@
 -- Each step goes on with the choice, or ends it; after the last the parameters are points.
-use Rattle.std.specs.Prelude.{None, Some}
-use Rattle.std.proofs.Common.{arith}
-use Rattle.std.proofs.lemmas.Result.{err_from_is_err_and}
-use Rattle.hw_space.specs.declared.quantity.Quantity.TheVariants.{Channels}
-use Rattle.hw_space.specs.Choices.{choices}
+use Rattle.hw_space.specs.Prelude.{arith, err_from_is_err_and, None, Some, IsNonEmpty-le, Channels, choices}
 use Rattle.hw_space.proofs.PointLaws.{Chooses-next, Chooses-stop, Chooses-end, HasPoints-Chooses, IsChoice-err}
-use Rattle.pcm_interval.specs.IntervalLaws.{IsNonEmpty-le}
 use Rattle.hw_space.proofs.choice.choose.Goals as goal
 
 pub returns-in_err-take : goal.returns-in_err-take

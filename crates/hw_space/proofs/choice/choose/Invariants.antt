@@ -1,9 +1,5 @@
 -- What the steps from here on leave, all steps leave.
-use Rattle.std.proofs.Common.{drop}
-use Rattle.std.specs.Prelude.{Option}
-use Rattle.hw_space.specs.declared.param_box.ParamBox.{ParamBox}
-use Rattle.hw_space.specs.Choices.{Chooses, choices}
-use Rattle.hw_space.specs.Proper.{IsProper}
+use Rattle.hw_space.specs.Prelude.{drop, Option, ParamBox, choices, Chooses, IsProper}
 use Rattle.hw_space.proofs.choice.choose.Given as goal
 
 abbrev pub invariant-loop-choice : goal.invariant-loop-choice

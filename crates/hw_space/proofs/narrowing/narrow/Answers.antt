@@ -1,12 +1,8 @@
 -- Where the narrowed part is empty, nothing lies within; else the narrowed box is settled.
-use Rattle.std.proofs.Common.{subst}
-use Rattle.std.proofs.lemmas.Result.{err_from_is_err_and}
-use Rattle.hw_space.specs.Narrowings.{with_refined}
-use Rattle.hw_space.specs.Settled.{IsLeft, IsVoid}
-use Rattle.hw_space.specs.declared.param_box.ParamBox.{ParamBox}
-use Rattle.hw_space.proofs.StepLaws.{IsLeft-step}
+use Rattle.hw_space.specs.Prelude.{subst, err_from_is_err_and, ParamBox, with_refined, IsLeft, IsVoid}
 use Rattle.hw_space.proofs.NarrowingLaws.{narrowed-IsVoid, narrowed-IsProper}
 use Rattle.hw_space.proofs.Results.{Leaves-err, OnOk-err}
+use Rattle.hw_space.proofs.StepLaws.{IsLeft-step}
 use Rattle.hw_space.proofs.narrowing.narrow.Goals as goal
 
 pub returns-in_err-narrow_part-clause-left : goal.returns-in_err-narrow_part-clause-left

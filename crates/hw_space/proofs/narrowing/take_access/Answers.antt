@@ -1,14 +1,8 @@
 -- Where the mask has no number left, nothing lies within.
-use Rattle.std.proofs.Common.{ap, refl, subst, ◌∙◌}
-use Rattle.std.proofs.lemmas.Result.{err_from_is_err_and}
-use Rattle.hw_space.specs.Narrowings.{with_access}
-use Rattle.pcm_interval.specs.Masks.{common_mask}
-use Rattle.pcm_interval.specs.declared.mask.Mask.{Mask}
-use Rattle.hw_space.specs.Settled.{IsLeft, IsVoid}
-use Rattle.hw_space.specs.declared.param_box.ParamBox.{ParamBox}
-use Rattle.hw_space.proofs.StepLaws.{IsLeft-step}
+use Rattle.hw_space.specs.Prelude.{ap, subst, ◌∙◌, err_from_is_err_and, refl, Mask, common_mask, ParamBox, with_access, IsLeft, IsVoid}
 use Rattle.hw_space.proofs.NarrowingLaws.{with_access-IsVoid}
 use Rattle.hw_space.proofs.Results.{Leaves-err, OnOk-err}
+use Rattle.hw_space.proofs.StepLaws.{IsLeft-step}
 use Rattle.hw_space.proofs.narrowing.take_access.Goals as goal
 
 pub returns-in_err-refine-clause-left : goal.returns-in_err-refine-clause-left

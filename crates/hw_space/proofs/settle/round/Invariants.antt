@@ -1,9 +1,5 @@
 -- So far the box made a step, and where nothing changed, each rule so far kept it.
-use Rattle.std.proofs.Common.{◌≡◌, ℕ, ◌<◌, false}
-use Rattle.std.specs.Prelude.{slice_index_or}
-use Rattle.hw_space.specs.declared.rule.Rule.{Rule}
-use Rattle.hw_space.specs.Settled.{KeepsBox}
-use Rattle.hw_space.specs.Steps.{IsBoxStep}
+use Rattle.hw_space.specs.Prelude.{false, slice_index_or, ℕ, ◌<◌, ◌≡◌, Rule, KeepsBox, IsBoxStep}
 use Rattle.hw_space.proofs.settle.round.Given as goal
 
 abbrev pub invariant-loop-rule : goal.invariant-loop-rule

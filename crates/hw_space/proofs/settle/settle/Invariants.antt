@@ -1,6 +1,5 @@
 -- So far the box made a step. Each round that changes something makes it smaller.
-use Rattle.hw_space.specs.Boxes.{size_of_box}
-use Rattle.hw_space.specs.Steps.{IsBoxStep}
+use Rattle.hw_space.specs.Prelude.{size_of_box, IsBoxStep}
 use Rattle.hw_space.proofs.settle.settle.Given as goal
 
 abbrev pub invariant-loop-changed : goal.invariant-loop-changed

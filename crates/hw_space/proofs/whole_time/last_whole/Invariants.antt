@@ -1,6 +1,5 @@
 -- No size so far has a whole time.
-use Rattle.std.proofs.Common.{◌+◌, ◌≤◌}
-use Rattle.hw_space.specs.WholeTimes.{HasNoneFrom}
+use Rattle.hw_space.specs.Prelude.{◌+◌, ◌≤◌, HasNoneFrom}
 use Rattle.hw_space.proofs.whole_time.last_whole.Given as goal
 
 abbrev pub invariant-loop-size : goal.invariant-loop-size

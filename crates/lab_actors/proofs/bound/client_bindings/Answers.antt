@@ -1,8 +1,4 @@
-use Rattle.std.proofs.Common.{◌≡◌, ◌∙◌, ℕ, ap, sym, List, length}
-use Rattle.std.specs.Prelude.{Option, unwrap_or}
-use Rattle.std.proofs.lemmas.List.FromFn.{length-range_with_len}
-use Rattle.bindings.specs.Bound.{identity}
-use Rattle.wav_io.specs.Sound.{Sound}
+use Rattle.lab_actors.specs.Prelude.{ap, length, List, sym, ℕ, ◌∙◌, ◌≡◌, length-range_with_len, Option, unwrap_or, identity, Sound}
 use Rattle.lab_actors.proofs.bound.client_bindings.Goals as goal
 
 pub returns-in-None-clause-some : goal.returns-in-None-clause-some

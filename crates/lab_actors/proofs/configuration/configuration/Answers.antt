@@ -1,10 +1,6 @@
-use Rattle.std.proofs.Common.{◌++◌}
-use Rattle.std.proofs.lemmas.Result.{err_from_is_err_and}
-use Rattle.std.specs.Prelude.{◌∷◌}
-use Rattle.hw_space.specs.declared.param.Param.TheVariants.{BufferSize, PeriodSize, Rate}
-use Rattle.lab_run.specs.Openings.{value_if, values_of}
-use Rattle.lab_actors.proofs.Narrowings.{IsChosen-narrowed, IsChosen-nothing}
+use Rattle.lab_actors.specs.Prelude.{◌++◌, ◌∷◌, err_from_is_err_and, BufferSize, PeriodSize, Rate, value_if, values_of}
 use Rattle.lab_actors.proofs.ConfigRange.{IsConfigInRange-choice}
+use Rattle.lab_actors.proofs.Narrowings.{IsChosen-narrowed, IsChosen-nothing}
 use Rattle.lab_actors.proofs.configuration.configuration.Goals as goal
 
 pub returns-in_err-narrow-clause-chosen : goal.returns-in_err-narrow-clause-chosen

@@ -1,9 +1,4 @@
-use Rattle.std.proofs.Common.{◌++◌}
-use Rattle.std.proofs.lemmas.Result.{err_from_is_err_and}
-use Rattle.std.specs.Prelude.{◌∷◌, None}
-use Rattle.hw_space.specs.declared.param.Param.TheVariants.{BufferSize, Channels, PeriodSize, Rate}
-use Rattle.hw_space.specs.Settled.{space_left}
-use Rattle.lab_run.specs.Openings.{value_if, values_of}
+use Rattle.lab_actors.specs.Prelude.{◌++◌, ◌∷◌, err_from_is_err_and, None, BufferSize, Channels, PeriodSize, Rate, space_left, value_if, values_of}
 use Rattle.lab_actors.proofs.Narrowings.{IsNarrowed-append, IsNarrowed-fails, IsNarrowed-goes, IsNarrowed-none, IsNarrowed-refused}
 use Rattle.lab_actors.proofs.configuration.narrow.Goals as goal
 

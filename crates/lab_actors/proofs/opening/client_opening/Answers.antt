@@ -1,6 +1,4 @@
-use Rattle.std.proofs.Common.{◌≡◌, ◌∙◌, refl, sym, ap, arith, inl}
-use Rattle.std.specs.Prelude.{Err, Ok}
-use Rattle.wav_io.specs.Sound.{Sound}
+use Rattle.lab_actors.specs.Prelude.{ap, arith, inl, refl, sym, ◌∙◌, ◌≡◌, Err, Ok, Sound}
 use Rattle.lab_actors.proofs.UsableOpenings.{IsChosen-file, IsUsable-opened}
 use Rattle.lab_actors.proofs.opening.client_opening.Goals as goal
 

@@ -1,6 +1,4 @@
-use Rattle.std.proofs.Common.{◌≡◌, ◌∙◌, sym, ap, subst, arith, length}
-use Rattle.std.specs.Prelude.{ℕ, Err}
-use Rattle.lab_run.specs.Openings.{IsChosen, read_by, values_of}
+use Rattle.lab_actors.specs.Prelude.{ap, arith, length, subst, sym, ℕ, ◌∙◌, ◌≡◌, Err, IsChosen, read_by, values_of}
 use Rattle.lab_actors.proofs.UsableOpenings.{IsUsable-opened}
 use Rattle.lab_actors.proofs.opening.reader_opening.Goals as goal
 

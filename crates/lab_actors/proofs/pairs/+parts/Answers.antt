@@ -1,6 +1,4 @@
-use Rattle.std.proofs.Common.{rules, ◌+◌, ◌++◌, sym, subst, ◌∙◌, arith}
-use Rattle.std.proofs.lemmas.List.{get_or_default}
-use Rattle.lab_actors.specs.Pairs.{ChangesFrom, IsReadyFrom}
+use Rattle.lab_actors.specs.Prelude.{arith, rules, subst, sym, ◌++◌, ◌+◌, ◌∙◌, get_or_default, ChangesFrom, IsReadyFrom}
 use Rattle.lab_actors.proofs.PairLemmas.{ChangesFrom-append, ChangesFrom-one, IsReadyFrom-append}
 use Rattle.lab_actors.proofs.pairs.+parts.Goals as goal
 

@@ -1,15 +1,10 @@
-use Rattle.std.proofs.Common.{◌≡◌, ◌<◌, ◌++◌, ◌∙◌, List, arith, false, get_or, length, subst, sym, true}
-use Rattle.std.proofs.lemmas.List.{append-nil, get_or_default, take_all}
-use Rattle.lab_lines.specs.declared.line.Actor.TheVariants as actor
-use Rattle.lab_lines.specs.declared.line.Line.{Line}
-use Rattle.lab_lines.specs.declared.line.Op.TheVariants as op
-use Rattle.lab_run.specs.Phases.{ops_by}
-use Rattle.lab_actors.specs.Refused.{refused_rows}
-use Rattle.lab_actors.specs.Lines.{is_actor}
-use Rattle.lab_actors.specs.LineLaws.{other-line, room-next, room-own}
+use Rattle.lab_actors.specs.Prelude.{arith, get_or, length, List, subst, sym, ◌++◌, ◌<◌, ◌∙◌, ◌≡◌, append-nil, get_or_default, take_all, false, true, Line}
+use Rattle.lab_actors.specs.Prelude.{ops_by, other-line, room-next, room-own, is_actor, refused_rows}
 use Rattle.lab_actors.proofs.RefusedLaws.{are-refused, refused-next}
-use Rattle.lab_actors.proofs.refused.refuse_lines.Goals as goal
 use Rattle.lab_actors.proofs.refused.refuse_lines.Goals.{else-is_of, then-is_of}
+use Rattle.lab_lines.specs.declared.line.Actor.TheVariants as actor
+use Rattle.lab_lines.specs.declared.line.Op.TheVariants as op
+use Rattle.lab_actors.proofs.refused.refuse_lines.Goals as goal
 
 pub loop-index-init : goal.loop-index-init
 loop-index-init c = record {

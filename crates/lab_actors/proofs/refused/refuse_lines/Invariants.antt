@@ -1,7 +1,4 @@
-use Rattle.std.proofs.Common.{◌≡◌, ◌+◌, ◌≤◌, ◌++◌, length, take, vec_capacity, vec_len}
-use Rattle.lab_run.specs.Phases.{ops_by}
-use Rattle.lab_actors.specs.Refused.{refused_rows}
-use Rattle.lab_actors.specs.Lines.{is_actor, line_count}
+use Rattle.lab_actors.specs.Prelude.{length, take, vec_capacity, vec_len, ◌++◌, ◌+◌, ◌≡◌, ◌≤◌, ops_by, is_actor, line_count, refused_rows}
 use Rattle.lab_actors.proofs.refused.refuse_lines.Given as goal
 
 abbrev pub invariant-loop-index : goal.invariant-loop-index

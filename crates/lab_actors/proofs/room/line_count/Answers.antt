@@ -1,11 +1,7 @@
-use Rattle.std.proofs.Common.{◌<◌, ◌+◌, ap, arith, get_or, length, sym, ◌∙◌}
-use mir.Val.{bool_byte}
-use Rattle.std.proofs.lemmas.List.{get_or_default}
-use Rattle.lab_lines.specs.declared.line.Actor.TheVariants as actor
-use Rattle.lab_lines.specs.declared.line.Line.{Line}
-use Rattle.lab_lines.specs.declared.line.Op.TheVariants as op
-use Rattle.lab_actors.specs.Lines.{is_actor}
+use Rattle.lab_actors.specs.Prelude.{ap, arith, get_or, length, sym, ◌+◌, ◌<◌, ◌∙◌, get_or_default, bool_byte, Line, is_actor}
 use Rattle.lab_actors.proofs.LineCounts.{bool_byte-most, counted-next}
+use Rattle.lab_lines.specs.declared.line.Actor.TheVariants as actor
+use Rattle.lab_lines.specs.declared.line.Op.TheVariants as op
 use Rattle.lab_actors.proofs.room.line_count.Goals as goal
 
 pub loop-index-preserved : goal.loop-index-preserved

@@ -1,6 +1,4 @@
-use Rattle.std.proofs.Common.{◌≡◌, ◌≤◌, length, take}
-use Rattle.lab_run.specs.Phases.{ops_by}
-use Rattle.lab_actors.specs.Lines.{is_actor}
+use Rattle.lab_actors.specs.Prelude.{length, take, ◌≡◌, ◌≤◌, ops_by, is_actor}
 use Rattle.lab_actors.proofs.room.line_count.Given as goal
 
 abbrev pub invariant-loop-index : goal.invariant-loop-index

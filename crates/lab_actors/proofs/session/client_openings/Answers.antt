@@ -1,10 +1,4 @@
-use Rattle.std.proofs.Common.{◌+◌, ◌<◌, sym, subst, arith, length, List, take}
-use Rattle.std.proofs.lemmas.List.Elements.{All-push}
-use Rattle.std.specs.Prelude.{IfSome, Option}
-use Rattle.lab_run.specs.Openings.{AreClientOpenings}
-use Rattle.lab_run.specs.Stage.{Setup}
-use Rattle.lab_actors.specs.Sessions.{AreUsable}
-use Rattle.lab_actors.specs.Usable.{IsUsable}
+use Rattle.lab_actors.specs.Prelude.{arith, length, List, subst, sym, take, ◌+◌, ◌<◌, All-push, IfSome, Option, AreClientOpenings, Setup, AreUsable, IsUsable}
 use Rattle.lab_actors.proofs.OpeningLists.{AreClientOpenings-more}
 use Rattle.lab_actors.proofs.session.client_openings.Goals as goal
 

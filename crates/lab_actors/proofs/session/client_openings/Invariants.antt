@@ -1,6 +1,4 @@
-use Rattle.std.proofs.Common.{take}
-use Rattle.lab_run.specs.Openings.{AreClientOpenings}
-use Rattle.lab_actors.specs.Sessions.{AreUsable}
+use Rattle.lab_actors.specs.Prelude.{take, AreClientOpenings, AreUsable}
 use Rattle.lab_actors.proofs.session.client_openings.Given as goal
 
 abbrev pub invariant-loop-number : goal.invariant-loop-number

@@ -1,10 +1,4 @@
-use Rattle.std.proofs.Common.{◌+◌, sym, subst, List, take}
-use Rattle.std.proofs.lemmas.List.Elements.{All-push}
-use Rattle.std.specs.Prelude.{IfSome, Option}
-use Rattle.lab_run.specs.Openings.{AreReaderOpenings}
-use Rattle.lab_run.specs.Stage.{Setup}
-use Rattle.lab_actors.specs.Sessions.{AreUsable}
-use Rattle.lab_actors.specs.Usable.{IsUsable}
+use Rattle.lab_actors.specs.Prelude.{List, subst, sym, take, ◌+◌, All-push, IfSome, Option, AreReaderOpenings, Setup, AreUsable, IsUsable}
 use Rattle.lab_actors.proofs.OpeningLists.{AreReaderOpenings-more}
 use Rattle.lab_actors.proofs.session.reader_openings.Goals as goal
 

@@ -1,6 +1,4 @@
-use Rattle.std.proofs.Common.{take}
-use Rattle.lab_run.specs.Openings.{AreReaderOpenings}
-use Rattle.lab_actors.specs.Sessions.{AreUsable}
+use Rattle.lab_actors.specs.Prelude.{take, AreReaderOpenings, AreUsable}
 use Rattle.lab_actors.proofs.session.reader_openings.Given as goal
 
 abbrev pub invariant-loop-number : goal.invariant-loop-number

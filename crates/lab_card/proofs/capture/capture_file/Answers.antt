@@ -1,9 +1,5 @@
-use Rattle.std.proofs.Common.{◌≡◌, ℕ, ℤ, ◌+◌, ◌*◌, ◌++◌, List, ap, arith, sym, ◌∙◌}
-use Rattle.std.proofs.lemmas.List.{append-nil}
-use Rattle.std.specs.Prelude.{Option, Some}
-use Rattle.wav_io.specs.Sound.{Sound}
-use Rattle.lab_card.specs.Captures.{captured_frame, captured_frames}
-use Rattle.lab_card.specs.MovesLaws.{captured_frames-append}
+use Rattle.lab_card.specs.Prelude.{ap, arith, List, Some, sym, ℕ, ℤ, ◌*◌, ◌++◌, ◌+◌, ◌∙◌, ◌≡◌, append-nil, Option, Sound, captured_frame, captured_frames}
+use Rattle.lab_card.specs.Prelude.{captured_frames-append}
 use Rattle.lab_card.proofs.capture.capture_file.Goals as goal
 
 pub loop-index-preserved : goal.loop-index-preserved

@@ -1,5 +1,4 @@
-use Rattle.std.proofs.Common.{◌≡◌, ◌*◌, ◌≤◌, Some, vec_capacity, vec_len}
-use Rattle.lab_card.specs.Captures.{captured_frames}
+use Rattle.lab_card.specs.Prelude.{Some, vec_capacity, vec_len, ◌*◌, ◌≡◌, ◌≤◌, captured_frames}
 use Rattle.lab_card.proofs.capture.capture_file.Given as goal
 
 abbrev pub invariant-loop-index : goal.invariant-loop-index

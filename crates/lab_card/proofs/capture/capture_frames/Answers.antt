@@ -1,6 +1,4 @@
-use Rattle.std.proofs.Common.{ap, sym, ◌∙◌}
-use Rattle.std.specs.Option.{option_copied}
-use Rattle.lab_card.specs.Captures.{captured_frames}
+use Rattle.lab_card.specs.Prelude.{ap, sym, ◌∙◌, option_copied, captured_frames}
 use Rattle.lab_card.proofs.Silence.{captured_frames-none}
 use Rattle.lab_card.proofs.capture.capture_frames.Goals as goal
 

@@ -1,6 +1,4 @@
-use Rattle.std.proofs.Common.{◌≡◌, ℕ, ℤ, ◌-◌, ◌*◌, ◌≤◌, ◌++◌, List, length, take, drop, ap, subst, arith, ◌∙◌}
-use Rattle.std.specs.Prelude.{pos, replicate}
-use Rattle.wav_io.specs.Sound.{Sound}
+use Rattle.lab_card.specs.Prelude.{ap, arith, drop, length, List, subst, take, ℕ, ℤ, ◌*◌, ◌++◌, ◌-◌, ◌∙◌, ◌≡◌, ◌≤◌, pos, replicate, Sound}
 use Rattle.lab_card.proofs.FileParts.{captured_frames-part}
 use Rattle.lab_card.proofs.capture.capture_part.Goals as goal
 

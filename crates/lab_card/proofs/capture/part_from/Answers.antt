@@ -1,5 +1,4 @@
-use Rattle.std.proofs.Common.{◌≡◌, ◌*◌, arith, length}
-use Rattle.std.specs.Prelude.{min}
+use Rattle.lab_card.specs.Prelude.{arith, length, ◌*◌, ◌≡◌, min}
 use Rattle.lab_card.proofs.FileParts.{part-taken}
 use Rattle.lab_card.proofs.capture.part_from.Goals as goal
 

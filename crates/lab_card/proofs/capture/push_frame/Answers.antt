@@ -1,8 +1,6 @@
-use Rattle.std.proofs.Common.{◌≡◌, ℕ, ℤ, ◌++◌, ◌∷◌, [], Some, List, map, ap, arith, sym, ◌∙◌, append_assoc}
-use Rattle.std.specs.List.{range_with_len}
+use Rattle.lab_card.specs.Prelude.{ap, append_assoc, arith, List, map, Some, sym, ℕ, ℤ, [], ◌++◌, ◌∙◌, ◌≡◌, map-range_with_len_more, range_with_len, ◌∷◌}
+use Rattle.lab_card.specs.Prelude.{captured_at}
 use Rattle.std.proofs.lemmas.Grind.{common_steps}
-use Rattle.std.proofs.lemmas.List.FromFn.{map-range_with_len_more}
-use Rattle.lab_card.specs.Captures.{captured_at}
 use Rattle.lab_card.proofs.capture.push_frame.Goals as goal
 
 pub loop-channel-preserved : goal.loop-channel-preserved

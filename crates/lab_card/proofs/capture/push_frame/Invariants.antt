@@ -1,6 +1,4 @@
-use Rattle.std.proofs.Common.{◌≡◌, ◌+◌, ◌≤◌, ◌++◌, map, Some, vec_capacity, vec_len}
-use Rattle.std.specs.List.{range_with_len}
-use Rattle.lab_card.specs.Captures.{captured_at}
+use Rattle.lab_card.specs.Prelude.{map, Some, vec_capacity, vec_len, ◌++◌, ◌+◌, ◌≡◌, ◌≤◌, range_with_len, captured_at}
 use Rattle.lab_card.proofs.capture.push_frame.Given as goal
 
 abbrev pub invariant-loop-channel : goal.invariant-loop-channel

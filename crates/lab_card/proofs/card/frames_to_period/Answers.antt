@@ -1,6 +1,4 @@
-use Rattle.std.proofs.Common.{ℕ, ◌≡◌, ◌+◌, ◌-◌, ◌%◌, ap, ◌∙◌}
-use Rattle.card_sim.specs.Runs.{period_of}
-use Rattle.lab_card.specs.Moves.{frame_of_card}
+use Rattle.lab_card.specs.Prelude.{ap, ℕ, ◌%◌, ◌+◌, ◌-◌, ◌∙◌, ◌≡◌, period_of, frame_of_card}
 use Rattle.lab_card.proofs.Running.{period-end}
 use Rattle.lab_card.proofs.card.frames_to_period.Goals as goal
 

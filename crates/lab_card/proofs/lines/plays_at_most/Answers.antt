@@ -1,10 +1,7 @@
-use Rattle.std.proofs.Common.{◌<◌, ◌+◌, arith, get_or, length, sym}
-use Rattle.std.proofs.lemmas.Bool.{false≢true}
-use Rattle.std.proofs.lemmas.List.{get_or_default}
-use Rattle.lab_lines.specs.declared.line.Actor.TheVariants as actor
-use Rattle.lab_lines.specs.declared.line.Line.{Line}
-use Rattle.lab_lines.specs.declared.line.Op.TheVariants as op
+use Rattle.lab_card.specs.Prelude.{arith, get_or, length, sym, ◌+◌, ◌<◌, false≢true, get_or_default, Line}
 use Rattle.lab_card.proofs.OwnLines.{frames-most, frames-next}
+use Rattle.lab_lines.specs.declared.line.Actor.TheVariants as actor
+use Rattle.lab_lines.specs.declared.line.Op.TheVariants as op
 use Rattle.lab_card.proofs.lines.plays_at_most.Goals as goal
 
 pub returns-then-left-frames : goal.returns-then-left-frames

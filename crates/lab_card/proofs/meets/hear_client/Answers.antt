@@ -1,9 +1,5 @@
-use Rattle.std.proofs.Common.{◌≡◌, ap, arith, sym, ◌∙◌}
-use Rattle.snd_base.specs.declared.places.Cursor.{Cursor}
-use Rattle.snoop_table.specs.Writers.{next_frame, writer_geometry, writer_ring, writer_track}
-use Rattle.sum_table.specs.declared.view.Track.{Track}
-use Rattle.sum_table.specs.declared.view.View.{View}
-use Rattle.lab_card.specs.Moves.{frame_of_card, seat_of_card}
+use Rattle.lab_card.specs.Prelude.{ap, arith, sym, ◌∙◌, ◌≡◌, Cursor, Track, View, next_frame, writer_geometry, writer_ring, writer_track, frame_of_card}
+use Rattle.lab_card.specs.Prelude.{seat_of_card}
 use Rattle.lab_card.proofs.Hearing.{noted-heard, published-heard}
 use Rattle.lab_card.proofs.meets.hear_client.Goals as goal
 

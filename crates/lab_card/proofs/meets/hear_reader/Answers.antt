@@ -1,5 +1,4 @@
-use Rattle.snoop_table.specs.Writers.{desk_of}
-use Rattle.card_sim.specs.Runs.{writer_of}
+use Rattle.lab_card.specs.Prelude.{desk_of, writer_of}
 use Rattle.lab_card.proofs.Meeting.{borne-heard}
 use Rattle.lab_card.proofs.meets.hear_reader.Goals as goal
 

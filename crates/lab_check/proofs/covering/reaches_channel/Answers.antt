@@ -1,9 +1,4 @@
-use Rattle.std.proofs.Common.{◌≡◌, ◌<◌, ◌==◌, ◌∙◌, ap, sym, length, arith}
-use Rattle.std.proofs.lemmas.Bool.Decides.{nat_tests}
-use Rattle.std.proofs.lemmas.List.{get_or-take, length-take}
-use Rattle.std.specs.Prelude.{slice_index, take}
-use Rattle.bindings.specs.Bound.{rising}
-use Rattle.bindings.specs.RisingLaws.{length-rising}
+use Rattle.lab_check.specs.Prelude.{ap, arith, length, length-take, sym, take, ◌<◌, ◌==◌, ◌∙◌, ◌≡◌, nat_tests, get_or-take, slice_index, rising, length-rising}
 use Rattle.lab_check.proofs.Covers.{any-here, any-next}
 use Rattle.lab_check.proofs.covering.reaches_channel.Goals as goal
 

@@ -1,7 +1,4 @@
-use Rattle.std.proofs.Common.{◌≡◌, ◌==◌, drop}
-use Rattle.std.specs.Prelude.{slice_index, take}
-use Rattle.std.specs.List.{list_any}
-use Rattle.bindings.specs.Bound.{rising}
+use Rattle.lab_check.specs.Prelude.{drop, take, ◌==◌, ◌≡◌, list_any, slice_index, rising}
 use Rattle.lab_check.proofs.covering.reaches_channel.Given as goal
 
 abbrev pub invariant-loop-place : goal.invariant-loop-place

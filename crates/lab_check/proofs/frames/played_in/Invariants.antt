@@ -1,7 +1,5 @@
-use Rattle.std.proofs.Common.{◌≡◌, take}
-use Rattle.std.specs.Prelude.{sum_by}
+use Rattle.lab_check.specs.Prelude.{take, ◌≡◌, sum_by, played_by}
 use Rattle.lab_lines.specs.declared.line.Line.{Line}
-use Rattle.lab_lines.specs.Script.{played_by}
 use Rattle.lab_check.proofs.frames.played_in.Given as goal
 
 abbrev pub invariant-loop-line : goal.invariant-loop-line

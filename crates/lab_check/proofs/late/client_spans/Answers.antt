@@ -1,9 +1,4 @@
-use Rattle.std.proofs.Common.{◌∙◌, ap, sym}
-use Rattle.std.proofs.lemmas.List.Folds.{list_any_more}
-use Rattle.std.specs.Prelude.{◌||◌}
-use Rattle.std.specs.List.{list_any}
-use Rattle.lab_check.specs.Late.{covers}
-use Rattle.lab_check.specs.Spans.{is_in_some}
+use Rattle.lab_check.specs.Prelude.{ap, sym, ◌∙◌, list_any_more, list_any, ◌||◌, covers, is_in_some}
 use Rattle.lab_check.proofs.late.client_spans.Goals as goal
 
 pub loop-client-preserved : goal.loop-client-preserved

@@ -1,7 +1,4 @@
-use Rattle.std.proofs.Common.{◌≡◌, ◌<◌, ◌^◌, ℕ, take}
-use Rattle.std.specs.List.{list_any}
-use Rattle.lab_check.specs.Late.{covers}
-use Rattle.lab_check.specs.Spans.{is_in_span}
+use Rattle.lab_check.specs.Prelude.{take, ℕ, ◌<◌, ◌^◌, ◌≡◌, list_any, covers, is_in_span}
 use Rattle.lab_check.proofs.late.client_spans.Given as goal
 
 abbrev pub invariant-loop-client : goal.invariant-loop-client

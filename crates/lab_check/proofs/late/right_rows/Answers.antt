@@ -1,9 +1,6 @@
-use Rattle.std.proofs.Common.{◌++◌, ◌∷◌, [], ◌∙◌, ℕ, List, ap, subst, sym, take}
-use Rattle.std.specs.Prelude.{Bool, map}
-use Rattle.snd_base.specs.declared.places.Segment.{Segment}
-use Rattle.lab_check.specs.Late as late
-use Rattle.lab_check.specs.Spans.{AreIndexes}
+use Rattle.lab_check.specs.Prelude.{ap, List, subst, sym, take, ℕ, [], ◌++◌, ◌∙◌, ◌∷◌, Bool, map, Segment, AreIndexes}
 use Rattle.lab_check.proofs.SpanSearch.{map-more}
+use Rattle.lab_check.specs.Late as late
 use Rattle.lab_check.proofs.late.right_rows.Goals as goal
 
 pub loop-row-preserved : goal.loop-row-preserved

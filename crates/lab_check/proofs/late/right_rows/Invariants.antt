@@ -1,5 +1,4 @@
-use Rattle.std.proofs.Common.{◌≡◌, take}
-use Rattle.std.specs.Prelude.{map}
+use Rattle.lab_check.specs.Prelude.{take, ◌≡◌, map}
 use Rattle.lab_check.specs.Late as late
 use Rattle.lab_check.proofs.late.right_rows.Given as goal
 

@@ -1,10 +1,8 @@
-use Rattle.std.proofs.Common.{◌≡◌, ◌∙◌, ap, rules, tests}
+use Rattle.lab_check.specs.Prelude.{ap, rules, tests, ◌∙◌, ◌≡◌, position, not}
 use Rattle.std.proofs.lemmas.Iterator.{YieldsList-from_slice}
 use Rattle.std.proofs.lemmas.Iterator.Search.{position_from_yields_List}
-use Rattle.std.specs.List.{position}
-use Rattle.std.specs.Prelude.{not}
-use Rattle.lab_check.specs.Late as late
 use Rattle.lab_check.proofs.SpanSearch.{position-map}
+use Rattle.lab_check.specs.Late as late
 use Rattle.lab_check.proofs.late.wrong_row.Goals as goal
 
 pub returns : goal.returns

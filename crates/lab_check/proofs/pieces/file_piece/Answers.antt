@@ -1,6 +1,4 @@
-use Rattle.std.proofs.Common.{◌≡◌, ◌-◌, ◌/◌, ◌∙◌, ap, refl, length, take}
-use Rattle.std.specs.Prelude.{min}
-use Rattle.wav_io.specs.Canonical.{sample_bytes}
+use Rattle.lab_check.specs.Prelude.{ap, length, refl, take, ◌-◌, ◌/◌, ◌∙◌, ◌≡◌, min, sample_bytes}
 use Rattle.lab_check.proofs.CanonicalPieces.{piece-is}
 use Rattle.lab_check.proofs.pieces.file_piece.Goals as goal
 

@@ -1,8 +1,5 @@
-use Rattle.std.proofs.Common.{◌≡◌, ◌+◌, ◌*◌, ◌<◌, ℕ, ℤ, List, ap, sym, ◌∙◌, subst, length, arith}
-use Rattle.std.specs.Prelude.{pos, replicate}
-use Rattle.snd_base.specs.declared.places.Segment.{Segment}
-use Rattle.run_laws.specs.Files.{placed_from}
-use Rattle.lab_check.specs.Sums.{TotalsFit, IsSummed, entries_of_segments}
+use Rattle.lab_check.specs.Prelude.{ap, arith, length, List, subst, sym, ℕ, ◌*◌, ◌+◌, ◌<◌, ◌∙◌, ◌≡◌, pos, replicate, ℤ, Segment, placed_from}
+use Rattle.lab_check.specs.Prelude.{entries_of_segments, IsSummed, TotalsFit}
 use Rattle.lab_check.proofs.Bounds.{placed_fits, samples-known}
 use Rattle.lab_check.proofs.Saturated.{back, window-played}
 use Rattle.lab_check.proofs.played.mixed_report.Goals as goal

@@ -1,8 +1,4 @@
-use Rattle.std.proofs.Common.{◌≡◌, ◌≤◌, ◌-◌, ◌*◌}
-use Rattle.std.specs.List.{range_with_len}
-use Rattle.std.specs.Prelude.{map}
-use Rattle.lab_run.specs.LabRun.{mixed_at}
-use Rattle.run_laws.specs.Files.{placed_from}
+use Rattle.lab_check.specs.Prelude.{◌*◌, ◌-◌, ◌≡◌, ◌≤◌, range_with_len, map, mixed_at, placed_from}
 use Rattle.lab_check.proofs.played.mixed_report.Given as goal
 
 abbrev pub invariant-loop-done : goal.invariant-loop-done

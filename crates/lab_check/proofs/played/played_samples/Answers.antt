@@ -1,10 +1,7 @@
-use Rattle.std.proofs.Common.{◌≡◌, ◌+◌, ◌*◌, ◌^◌, ◌<◌, List, length, subst, sym}
-use Rattle.std.proofs.lemmas.Result.{IfOk-weaker}
-use Rattle.std.specs.Global.{Vec}
-use Rattle.std.specs.Prelude.{ℤ}
-use Rattle.lab_check.specs.Samples as samples
+use Rattle.lab_check.specs.Prelude.{length, List, subst, sym, ◌*◌, ◌+◌, ◌<◌, ◌^◌, ◌≡◌, IfOk-weaker, Vec, ℤ}
 use Rattle.lab_check.proofs.FileSizes.{played-few}
 use Rattle.lab_check.proofs.Tested.{passed_end, passed_segments}
+use Rattle.lab_check.specs.Samples as samples
 use Rattle.lab_check.proofs.played.played_samples.Goals as goal
 
 pub mixed_report-requires-clause-right : goal.mixed_report-requires-clause-right

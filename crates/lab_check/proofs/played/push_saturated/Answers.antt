@@ -1,8 +1,5 @@
-use Rattle.std.proofs.Common.{◌≡◌, ◌+◌, ◌/◌, ◌%◌, ◌++◌, ◌∷◌, [], ℤ, List, ap, ◌∙◌, rules, to_z, of_z, w16, w64, get_or}
-use Rattle.std.specs.Int.{int_wrap}
-use Rattle.std.specs.Prelude.{pos}
-use Rattle.mix_core.specs.Laid.{total}
-use Rattle.lap_word.specs.Clamp.{clamp_of}
+use Rattle.lab_check.specs.Prelude.{ap, get_or, List, of_z, rules, to_z, w16, [], ◌%◌, ◌++◌, ◌+◌, ◌/◌, ◌∙◌, ◌∷◌, ◌≡◌, int_wrap, pos, ℤ, clamp_of, total}
+use Rattle.std.proofs.Common.{w64}
 use Rattle.lab_check.proofs.Saturated.{played-more, saturated-total}
 use Rattle.lab_check.proofs.played.push_saturated.Goals as goal
 

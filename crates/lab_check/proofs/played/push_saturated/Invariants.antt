@@ -1,9 +1,4 @@
-use Rattle.std.proofs.Common.{◌≡◌, ◌++◌, ℕ, List, length}
-use Rattle.std.specs.List.{range_with_len}
-use Rattle.std.specs.Prelude.{pos, map, replicate}
-use Rattle.mix_core.specs.declared.port.Entry.{Entry}
-use Rattle.lab_run.specs.LabRun.{mixed_at}
-use Rattle.lab_check.specs.Sums.{TotalsFit, IsSummed}
+use Rattle.lab_check.specs.Prelude.{length, List, ℕ, ◌++◌, ◌≡◌, range_with_len, map, pos, replicate, Entry, mixed_at, IsSummed, TotalsFit}
 use Rattle.lab_check.proofs.played.push_saturated.Given as goal
 
 abbrev pub invariant-loop-sum : goal.invariant-loop-sum

@@ -1,6 +1,4 @@
-use Rattle.std.proofs.Common.{◌≡◌, ◌+◌, drop, None}
-use Rattle.lab_check.specs.Reads.{end_defect, reads_end}
-use Rattle.lab_check.specs.Unread.{RunsFit, with_head, unread_of}
+use Rattle.lab_check.specs.Prelude.{drop, None, ◌+◌, ◌≡◌, end_defect, reads_end, RunsFit, unread_of, with_head}
 use Rattle.lab_check.proofs.reads.read_defect.Given as goal
 
 abbrev pub invariant-loop-row : goal.invariant-loop-row

@@ -1,7 +1,4 @@
-use Rattle.std.proofs.Common.{◌+◌, ◌++◌, ℕ, ℤ, List, ap, ◌∙◌}
-use Rattle.std.specs.Prelude.{map}
-use Rattle.std.specs.Option.{option_copied}
-use Rattle.lab_check.specs.Samples.{captured_by}
+use Rattle.lab_check.specs.Prelude.{ap, List, ℕ, ◌++◌, ◌+◌, ◌∙◌, option_copied, map, ℤ, captured_by}
 use Rattle.lab_check.proofs.ReaderSamples.{frame-more}
 use Rattle.lab_check.proofs.recorded.push_run.Goals as goal
 

@@ -1,7 +1,4 @@
-use Rattle.std.proofs.Common.{◌≡◌, ◌++◌}
-use Rattle.std.specs.Prelude.{map}
-use Rattle.std.specs.List.{flat_map, range_with_len}
-use Rattle.std.specs.Option.{option_copied}
+use Rattle.lab_check.specs.Prelude.{◌++◌, ◌≡◌, flat_map, range_with_len, option_copied, map}
 use Rattle.lab_check.specs.Samples as samples
 use Rattle.lab_check.proofs.recorded.push_run.Given as goal
 

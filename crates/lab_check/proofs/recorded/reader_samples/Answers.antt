@@ -1,12 +1,8 @@
-use Rattle.std.proofs.Common.{◌≡◌, ◌+◌, ◌*◌, ◌^◌, ◌<◌, List, length, subst, sym}
-use Rattle.std.proofs.lemmas.Result.{IfOk-weaker}
-use Rattle.std.specs.Global.{Vec}
-use Rattle.std.specs.Option.{option_copied}
-use Rattle.std.specs.Prelude.{ℤ, IfOk}
-use Rattle.lab_check.specs.Samples as samples
+use Rattle.lab_check.specs.Prelude.{length, List, subst, sym, ◌*◌, ◌+◌, ◌<◌, ◌^◌, ◌≡◌, IfOk-weaker, Vec, option_copied, IfOk, ℤ}
 use Rattle.lab_check.proofs.FileSizes.{reader-few}
 use Rattle.lab_check.proofs.ReaderSamples.{recorded-at}
 use Rattle.lab_check.proofs.Tested.{ends_below, one_reader}
+use Rattle.lab_check.specs.Samples as samples
 use Rattle.lab_check.proofs.recorded.reader_samples.Goals as goal
 
 pub samples_of_reader-requires-clause-few : goal.samples_of_reader-requires-clause-few

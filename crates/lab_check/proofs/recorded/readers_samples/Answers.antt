@@ -1,5 +1,4 @@
-use Rattle.std.proofs.Common.{◌≡◌, ◌+◌, ◌<◌, None, ap, length, subst, arith}
-use Rattle.lab_check.specs.Reads.{reader_defect}
+use Rattle.lab_check.specs.Prelude.{ap, arith, length, None, subst, ◌+◌, ◌<◌, ◌≡◌, reader_defect}
 use Rattle.lab_check.proofs.Tested.{each-reader, ends_below}
 use Rattle.lab_check.proofs.recorded.readers_samples.Goals as goal
 

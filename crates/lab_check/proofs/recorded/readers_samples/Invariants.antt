@@ -1,6 +1,4 @@
-use Rattle.std.proofs.Common.{◌≡◌, ◌++◌, drop}
-use Rattle.std.specs.Option.{option_copied}
-use Rattle.lab_check.specs.Recordings.{recordings_of}
+use Rattle.lab_check.specs.Prelude.{drop, ◌++◌, ◌≡◌, option_copied, recordings_of}
 use Rattle.lab_check.specs.Samples as samples
 use Rattle.lab_check.proofs.recorded.readers_samples.Given as goal
 

@@ -1,6 +1,4 @@
-use Rattle.std.proofs.Common.{◌≡◌, take}
-use Rattle.std.specs.Option.{option_copied}
-use Rattle.lab_check.specs.Recordings.{unlined_runs}
+use Rattle.lab_check.specs.Prelude.{take, ◌≡◌, option_copied, unlined_runs}
 use Rattle.lab_check.specs.Samples as samples
 use Rattle.lab_check.proofs.recorded.recorded_runs.Given as goal
 

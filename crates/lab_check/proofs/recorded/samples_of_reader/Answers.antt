@@ -1,14 +1,7 @@
-use Rattle.std.proofs.Common.{◌≡◌, ℕ, List, ap, sym, subst, ◌∙◌}
-use Rattle.std.specs.Prelude.{IfOk}
-use Rattle.std.specs.Option.{option_copied}
-use Rattle.lab_run.specs.OwnRows.{runs_by}
-use Rattle.lab_check.specs.Lines.{first_run_line}
-use Rattle.lab_check.specs.Recordings.{unlined_runs}
-use Rattle.lab_check.specs.Reads.{runs_with_lines}
-use Rattle.lab_check.specs.Samples.{captured_runs}
-use Rattle.lab_check.specs.Unread.{RunsFit}
-use Rattle.lab_check.proofs.Slices.{lines-off}
+use Rattle.lab_check.specs.Prelude.{ap, List, subst, sym, ℕ, ◌∙◌, ◌≡◌, option_copied, IfOk, runs_by, first_run_line, runs_with_lines, unlined_runs}
+use Rattle.lab_check.specs.Prelude.{captured_runs, RunsFit}
 use Rattle.lab_check.proofs.ReaderRuns.{reader_below}
+use Rattle.lab_check.proofs.Slices.{lines-off}
 use Rattle.lab_check.proofs.recorded.samples_of_reader.Goals as goal
 
 pub recorded_runs-requires : goal.recorded_runs-requires

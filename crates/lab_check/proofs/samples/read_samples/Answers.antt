@@ -1,9 +1,4 @@
-use Rattle.std.proofs.Common.{arith, rules, subst, pos, get_or, w16, FitsSigned}
-use Rattle.std.proofs.lemmas.Int.{to_z-of_z}
-use Rattle.std.proofs.lemmas.List.{take_all}
-use Rattle.std.proofs.lemmas.List.Elements.{All-more}
-use Rattle.std.specs.Prelude.{All}
-use Rattle.lap_word.specs.Clamp.{IsSample}
+use Rattle.lab_check.specs.Prelude.{arith, FitsSigned, get_or, rules, subst, w16, to_z-of_z, take_all, All-more, All, pos, IsSample}
 use Rattle.lab_check.proofs.samples.read_samples.Goals as goal
 
 pub loop-sample-preserved : goal.loop-sample-preserved

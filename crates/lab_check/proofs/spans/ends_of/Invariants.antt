@@ -1,5 +1,4 @@
-use Rattle.std.proofs.Common.{◌≡◌, ◌++◌, drop}
-use Rattle.lab_check.specs.Spans.{greatest_ends}
+use Rattle.lab_check.specs.Prelude.{drop, ◌++◌, ◌≡◌, greatest_ends}
 use Rattle.lab_check.proofs.spans.ends_of.Given as goal
 
 abbrev pub invariant-loop-span : goal.invariant-loop-span

@@ -1,7 +1,5 @@
-use Rattle.std.proofs.Common.{◌≡◌, ◌-◌, ◌∙◌, ℕ, List, ap, arith, leb, length, rules, suc, sym}
-use Rattle.std.proofs.lemmas.List.Sorted.{IsPartitionPoint-from_clause, IsPartitionedBy-leb}
-use Rattle.std.specs.Prelude.{nat_le, slice_index_or}
-use Rattle.lab_check.specs.declared.spans.FrameSpan.{FrameSpan}
+use Rattle.lab_check.specs.Prelude.{ap, arith, leb, length, List, rules, sym, ℕ, ◌-◌, ◌∙◌, ◌≡◌, IsPartitionedBy-leb, IsPartitionPoint-from_clause, nat_le}
+use Rattle.lab_check.specs.Prelude.{slice_index_or, suc, FrameSpan}
 use Rattle.lab_check.proofs.SpanSearch.{ends-length, found, nothing-found}
 use Rattle.lab_check.proofs.spans.is_in_spans.Goals as goal
 

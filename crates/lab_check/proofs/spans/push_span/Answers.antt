@@ -1,7 +1,4 @@
-use Rattle.std.proofs.Common.{◌∙◌, ap, sym}
-use Rattle.std.specs.List.{list_any}
-use Rattle.std.specs.Prelude.{◌||◌}
-use Rattle.lab_check.specs.Spans.{is_in_some, is_in_span}
+use Rattle.lab_check.specs.Prelude.{ap, sym, ◌∙◌, list_any, ◌||◌, is_in_some, is_in_span}
 use Rattle.lab_check.proofs.SpanSearch.{any-same}
 use Rattle.lab_check.proofs.spans.push_span.Goals as goal
 

@@ -1,6 +1,4 @@
-use Rattle.std.proofs.Common.{rules}
-use Rattle.std.proofs.lemmas.List.Sorted.{IsNonDecreasingBy-from_sort_by_key}
-use Rattle.lab_check.specs.declared.spans.FrameSpan.{FrameSpan}
+use Rattle.lab_check.specs.Prelude.{rules, IsNonDecreasingBy-from_sort_by_key, FrameSpan}
 use Rattle.lab_check.proofs.spans.sort_spans.Goals as goal
 
 pub returns-clause-rising : goal.returns-clause-rising

@@ -1,5 +1,4 @@
-use Rattle.std.proofs.Common.{◌∙◌, ap, sym}
-use Rattle.lab_check.specs.Covering.{reaches_frame}
+use Rattle.lab_check.specs.Prelude.{ap, sym, ◌∙◌, reaches_frame}
 use Rattle.lab_check.proofs.SpanSearch.{span-frames}
 use Rattle.lab_check.proofs.spans.span_of.Goals as goal
 

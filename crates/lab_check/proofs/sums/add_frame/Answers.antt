@@ -1,10 +1,6 @@
-use Rattle.std.proofs.Common.{to_z, of_z, w16, w64, ap, ◌∙◌, rules, ◌≡◌, ◌≤◌, ◌<◌, ◌+◌, ◌*◌, subst, arith, length}
-use Rattle.std.specs.Int.{int_wrap}
-use Rattle.std.specs.Prelude.{◌+ℤ◌, pos, slice_index, slice_index_or}
-use Rattle.bindings.specs.Bound.{rising}
-use Rattle.bindings.specs.RisingLaws.{length-rising}
-use Rattle.dmix_client.specs.Expansion.{frame_entries}
-use Rattle.lab_check.specs.Sums.{IsSummed}
+use Rattle.lab_check.specs.Prelude.{ap, arith, length, of_z, rules, subst, to_z, w16, ◌*◌, ◌+◌, ◌<◌, ◌∙◌, ◌≡◌, ◌≤◌, int_wrap, pos, slice_index, slice_index_or}
+use Rattle.lab_check.specs.Prelude.{◌+ℤ◌, rising, length-rising, frame_entries, IsSummed}
+use Rattle.std.proofs.Common.{w64}
 use Rattle.lab_check.proofs.Summing.{frame-step}
 use Rattle.lab_check.proofs.sums.add_frame.Goals as goal
 

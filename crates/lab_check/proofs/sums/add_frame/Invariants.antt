@@ -1,7 +1,4 @@
-use Rattle.std.proofs.Common.{◌+◌, ℕ}
-use Rattle.std.specs.Prelude.{pos, slice_index_or}
-use Rattle.dmix_client.specs.Expansion.{frame_entries}
-use Rattle.lab_check.specs.Sums.{IsSummed}
+use Rattle.lab_check.specs.Prelude.{ℕ, ◌+◌, pos, slice_index_or, frame_entries, IsSummed}
 use Rattle.lab_check.proofs.sums.add_frame.Given as goal
 
 abbrev pub invariant-loop-place : goal.invariant-loop-place

@@ -1,12 +1,5 @@
-use Rattle.std.proofs.Common.{◌≡◌, ◌≤◌, ◌<◌, ◌+◌, ◌*◌, ℕ, subst, sym, ap, ◌∙◌, length, List}
-use Rattle.std.specs.Prelude.{ℤ, slice_index}
-use Rattle.mix_core.specs.declared.port.Entry.{Entry}
-use Rattle.wav_io.specs.Sound.{Sound}
-use Rattle.dmix_client.specs.Expansion.{expand}
-use Rattle.lab_run.specs.Openings.{bound_by}
-use Rattle.lab_check.specs.Late.{entries_of_segment}
-use Rattle.lab_check.specs.Segments.{frames_taken}
-use Rattle.lab_check.specs.Sums.{IsSummed}
+use Rattle.lab_check.specs.Prelude.{ap, length, List, subst, sym, ℕ, ◌*◌, ◌+◌, ◌<◌, ◌∙◌, ◌≡◌, ◌≤◌, slice_index, ℤ, Entry, expand, Sound, bound_by}
+use Rattle.lab_check.specs.Prelude.{entries_of_segment, frames_taken, IsSummed}
 use Rattle.lab_check.proofs.Parts.{channels-below, has-samples, samples-of}
 use Rattle.lab_check.proofs.sums.add_part.Goals as goal
 

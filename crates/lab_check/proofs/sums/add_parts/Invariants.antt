@@ -1,5 +1,4 @@
-use Rattle.std.specs.Prelude.{take}
-use Rattle.lab_check.specs.Sums.{IsSummed, entries_of_segments}
+use Rattle.lab_check.specs.Prelude.{take, entries_of_segments, IsSummed}
 use Rattle.lab_check.proofs.sums.add_parts.Given as goal
 
 abbrev pub invariant-loop-client : goal.invariant-loop-client

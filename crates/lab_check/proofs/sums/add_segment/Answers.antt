@@ -1,15 +1,9 @@
-use Rattle.std.proofs.Common.{◌≡◌, ◌≤◌, ◌<◌, ◌+◌, ◌-◌, ◌*◌, ◌⊎◌, inl, inr, ℕ, subst, sym, ap, ◌∙◌, arith, length, List}
-use Rattle.std.proofs.lemmas.Bool.Decides.{nat_tests}
-use Rattle.std.specs.List.{flat_map, range_with_len}
-use Rattle.std.specs.Prelude.{pos, true, false, slice_index_or, if◌then◌else◌}
-use Rattle.mix_core.specs.declared.port.Entry.{Entry}
-use Rattle.dmix_client.specs.Expansion.{frame_entries}
-use Rattle.lab_check.specs.Sums.{IsSummed}
-use Rattle.lab_check.specs.Segments.{frames_taken}
+use Rattle.lab_check.specs.Prelude.{ap, arith, inl, inr, length, List, subst, sym, ℕ, ◌*◌, ◌+◌, ◌-◌, ◌<◌, ◌∙◌, ◌≡◌, ◌≤◌, ◌⊎◌, nat_tests, flat_map}
+use Rattle.lab_check.specs.Prelude.{range_with_len, false, if◌then◌else◌, pos, slice_index_or, true, Entry, frame_entries, frames_taken, IsSummed}
 use Rattle.lab_check.proofs.Adding.{samples-fit, all-in, frames-of, nothing-in, one-in, sample_from, places-of}
 use Rattle.lab_check.proofs.Summing.{frame_of_segment, places_at}
-use Rattle.lab_check.proofs.sums.add_segment.Goals as goal
 use Rattle.lab_check.proofs.sums.add_segment.Goals.{then-j-segment, else-j-segment}
+use Rattle.lab_check.proofs.sums.add_segment.Goals as goal
 
 pub returns-then-frames-late : goal.returns-then-frames-late
 returns-then-frames-late c = λ member.

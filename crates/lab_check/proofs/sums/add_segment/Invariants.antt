@@ -1,7 +1,4 @@
-use Rattle.std.proofs.Common.{◌+◌, ◌-◌, ℕ, length}
-use Rattle.std.specs.List.{flat_map, range_with_len}
-use Rattle.dmix_client.specs.Expansion.{sample_at}
-use Rattle.lab_check.specs.Sums.{IsSummed}
+use Rattle.lab_check.specs.Prelude.{length, ℕ, ◌+◌, ◌-◌, flat_map, range_with_len, sample_at, IsSummed}
 use Rattle.lab_check.proofs.Summing.{frame_of_segment}
 use Rattle.lab_check.proofs.sums.add_segment.Given as goal
 

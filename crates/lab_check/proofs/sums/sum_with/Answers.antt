@@ -1,7 +1,4 @@
-use Rattle.std.proofs.Common.{◌≡◌, ◌∙◌, ap, rules, to_z, of_z, w16}
-use Rattle.std.proofs.lemmas.Int.{wrapping_add_is}
-use Rattle.std.specs.Int.{int_wrap, w64}
-use Rattle.std.specs.Prelude.{◌+ℤ◌}
+use Rattle.lab_check.specs.Prelude.{ap, of_z, rules, to_z, w16, ◌∙◌, ◌≡◌, wrapping_add_is, int_wrap, w64, ◌+ℤ◌}
 use Rattle.lab_check.proofs.sums.sum_with.Goals as goal
 
 pub returns : goal.returns

@@ -1,16 +1,8 @@
-use Rattle.std.proofs.Common.{◌≡◌, ℕ, ◌≤◌, [], refl, arith, subst, sym}
-use Rattle.course.specs.AtPort.{LaysAt, LoadsAt, NoGet}
-use Rattle.dmix_client.specs.Growth.{AnySamples}
-use Rattle.dmix_client.specs.StandingLaws.{IsBacked-held}
-use Rattle.lab_lines.specs.declared.line.Op.{Op}
-use Rattle.lab_lines.specs.declared.line.Op.TheVariants as op
-use Rattle.lab_run.specs.Client.{count_answer, done_answer, frames_of}
-use Rattle.lab_clients.specs.Lines.{HasClientCalled, IsFew}
-use Rattle.lab_actors.specs.GateLaws.{both}
+use Rattle.lab_clients.specs.Prelude.{arith, refl, subst, sym, ℕ, [], ◌≡◌, ◌≤◌, LaysAt, LoadsAt, NoGet, Gives-taken, avail_answer, delay_answer, AnySamples}
+use Rattle.lab_clients.specs.Prelude.{IsBacked-held, Op, count_answer, done_answer, frames_of, both, HasClientCalled, IsFew}
 use Rattle.lab_clients.proofs.Called.{answer-taken, called-back, called-drop, called-keeps, called-pause, called-prepare, called-refused, called-resume}
 use Rattle.lab_clients.proofs.Fed.{IsFed, IsSame, drain-fed, number-fed, pause-fed, resume-fed, rewind-fed, rewindable-fed, start-fed, sync-fed}
-use Rattle.course.specs.Gives.{Gives-taken}
-use Rattle.dmix_client.specs.Calls.{avail_answer, delay_answer}
+use Rattle.lab_lines.specs.declared.line.Op.TheVariants as op
 use Rattle.lab_clients.proofs.calls.call.Goals as goal
 
 pub returns-in-Write : goal.returns-in-Write

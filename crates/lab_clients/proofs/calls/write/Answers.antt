@@ -1,18 +1,9 @@
-use Rattle.std.proofs.Common.{◌≡◌, ℕ, ◌≤◌, ◌+◌, ◌*◌, List, refl, ap, arith, drop, length, subst, sym, take, ◌∙◌}
-use Rattle.std.proofs.lemmas.Bool.Decides.{nat_tests}
-use Rattle.std.specs.Prelude.{ℤ, ◌-◌, min}
-use Rattle.wav_io.specs.Sound.{Sound}
-use Rattle.course.specs.AtPort.{LaysAt, LoadsAt, NoGet}
-use Rattle.dmix_client.specs.declared.stream.PlaybackStream.{PlaybackStream}
-use Rattle.dmix_client.specs.Growth.{Follows}
-use Rattle.dmix_client.specs.Writes.{IsOffer, frames_in}
-use Rattle.lab_lines.specs.declared.line.Op.TheVariants as op
-use Rattle.lab_run.specs.Client.{count_answer, frames_of}
+use Rattle.lab_clients.specs.Prelude.{ap, arith, drop, length, List, refl, subst, sym, take, ℕ, ◌*◌, ◌+◌, ◌∙◌, ◌≡◌, ◌≤◌, nat_tests, min, ℤ, ◌-◌, LaysAt}
+use Rattle.lab_clients.specs.Prelude.{LoadsAt, NoGet, Gives-taken, PlaybackStream, Follows, frames_in, IsOffer, Sound, count_answer, frames_of, both}
 use Rattle.lab_clients.proofs.Called.{answer-taken, called-keeps}
 use Rattle.lab_clients.proofs.Fed.{IsFed, write-fed}
-use Rattle.course.specs.Gives.{Gives-taken}
 use Rattle.lab_clients.proofs.Offering.{Offers, Offers-Follows, Offers-IsOffer, slice-Offers}
-use Rattle.lab_actors.specs.GateLaws.{both}
+use Rattle.lab_lines.specs.declared.line.Op.TheVariants as op
 use Rattle.lab_clients.proofs.calls.write.Goals as goal
 
 -- the frames that are offered, of the client's own count of frames

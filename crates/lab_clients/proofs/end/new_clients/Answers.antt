@@ -1,7 +1,4 @@
-use Rattle.std.proofs.Common.{◌+◌, [], ◌∷◌, arith, ap, length, length-append, subst, sym, ◌∙◌}
-use Rattle.lab_clients.specs.declared.client.LabClient.{LabClient}
-use Rattle.std.specs.Prelude.{List}
-use Rattle.lab_clients.specs.End.{AreNewClients}
+use Rattle.lab_clients.specs.Prelude.{ap, arith, length, List, subst, sym, [], ◌+◌, ◌∙◌, ◌∷◌, length-append, LabClient, AreNewClients}
 use Rattle.lab_clients.proofs.EndLaws.{AreNewClients-more}
 use Rattle.lab_clients.proofs.end.new_clients.Goals as goal
 

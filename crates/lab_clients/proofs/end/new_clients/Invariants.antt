@@ -1,5 +1,4 @@
-use Rattle.std.proofs.Common.{◌≡◌, length}
-use Rattle.lab_clients.specs.End.{AreNewClients}
+use Rattle.lab_clients.specs.Prelude.{length, ◌≡◌, AreNewClients}
 use Rattle.lab_clients.proofs.end.new_clients.Given as goal
 
 abbrev pub invariant-loop-number : goal.invariant-loop-number

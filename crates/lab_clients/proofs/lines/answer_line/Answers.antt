@@ -1,11 +1,5 @@
-use Rattle.std.proofs.Common.{sym, subst, ◌∙◌}
-use Rattle.lab_lines.specs.declared.line.Op.{Op}
-use Rattle.lab_lines.specs.declared.row.Answer.TheVariants.{Done}
-use Rattle.lab_clients.specs.Lines.{HasClientAnswered}
-use Rattle.lab_actors.specs.Countdown.{KeepsGate, at_gate_of, by_gate_of, left_of}
-use Rattle.lab_actors.specs.CountdownLaws.{CountsAsks-down, CountsAsks-keeps, KeepsGate-joined, KeepsGate-none, KeepsGate-passing}
-use Rattle.lab_actors.specs.GateLaws.{TakesAt-gate, both}
-use Rattle.lab_actors.specs.LineLaws.{is_die-other}
+use Rattle.lab_clients.specs.Prelude.{subst, sym, ◌∙◌, Op, Done, at_gate_of, by_gate_of, KeepsGate, left_of, CountsAsks-down, CountsAsks-keeps}
+use Rattle.lab_clients.specs.Prelude.{KeepsGate-joined, KeepsGate-none, KeepsGate-passing, both, TakesAt-gate, is_die-other, HasClientAnswered}
 use Rattle.lab_clients.proofs.Answered.{answered-call, answered-die, answered-stopped}
 use Rattle.lab_clients.proofs.lines.answer_line.Goals as goal
 

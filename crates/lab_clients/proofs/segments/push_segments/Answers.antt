@@ -1,6 +1,4 @@
-use Rattle.std.proofs.Common.{ℕ, ap, arith, length, map, take}
-use Rattle.std.proofs.lemmas.List.{length-append, length-map, length-take-le}
-use Rattle.snd_base.specs.declared.places.Segment.{Segment}
+use Rattle.lab_clients.specs.Prelude.{ap, arith, length, map, take, ℕ, length-append, length-map, length-take-le, Segment}
 use Rattle.lab_clients.proofs.segments.push_segments.Goals as goal
 
 pub unwrap-requires : goal.unwrap-requires

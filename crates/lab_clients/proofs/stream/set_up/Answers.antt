@@ -1,17 +1,8 @@
-use Rattle.std.specs.Prelude.{◌≡◌, ℕ, None, Result}
-use Rattle.std.proofs.Common.{refl, sym, ◌∙◌, ap, subst}
-use Rattle.snd_base.specs.declared.errors.PcmError.{PcmError}
-use Rattle.pcm_states.specs.declared.calls.Call.TheVariants as call
-use Rattle.pcm_stream.specs.declared.direction.Direction.TheVariants.{Playback}
-use Rattle.pcm_stream.specs.Setup.{Checks}
-use Rattle.pcm_stream.specs.Status.{refusal_of}
-use Rattle.sw_limits.specs.declared.params.SwParams.{SwParams}
+use Rattle.lab_clients.specs.Prelude.{ap, refl, subst, sym, ℕ, ◌∙◌, ◌≡◌, None, Result, PcmError, SwParams, IsValid, Playback, Checks, refusal_of}
+use Rattle.lab_clients.specs.Prelude.{configured_with, ClientView, Setup}
 use Rattle.sw_limits.specs.Boundary.{IsBoundary}
-use Rattle.sw_limits.specs.Params.{IsValid}
-use Rattle.dmix_client.specs.Calls.{configured_with}
-use Rattle.dmix_client.specs.View.{ClientView}
-use Rattle.lab_run.specs.Stage.{Setup}
 use Rattle.lab_clients.proofs.Params.{valid-checks}
+use Rattle.pcm_states.specs.declared.calls.Call.TheVariants as call
 use Rattle.lab_clients.proofs.stream.set_up.Goals as goal
 
 -- the parameters are valid for the configuration's boundary, so that they aren't refused

@@ -1,6 +1,4 @@
-use Rattle.lab_stop.specs.EndLaws.{EndsOf-answered, EndsReliably-answered, Refuses-tests, status_of-most}
-use Rattle.lab_stop.specs.FaultLaws.{InputFaults-tests, OutputFaults-tests}
-use Rattle.lab_compare.specs.Checking.{check_in}
+use Rattle.lab_commands.specs.Prelude.{EndsOf-answered, EndsReliably-answered, Refuses-tests, status_of-most, InputFaults-tests, OutputFaults-tests, check_in}
 use Rattle.lab_commands.proofs.Leaving.{CommandLeaves-checked}
 use Rattle.lab_commands.proofs.commands.check_command.Goals as goal
 

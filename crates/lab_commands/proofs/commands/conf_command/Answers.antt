@@ -1,8 +1,5 @@
-use Rattle.std.specs.Prelude.{Err}
-use Rattle.std.proofs.Common.{refl}
-use Rattle.std.proofs.lemmas.Result.{err_from_is_err_and}
-use Rattle.lab_stop.specs.EndLaws.{status_of-read, status_of-written}
-use Rattle.lab_stop.specs.FaultLaws.{InputFaults-same, OutputFaults-puts, OutputFaults-reads}
+use Rattle.lab_commands.specs.Prelude.{refl, err_from_is_err_and, Err, status_of-read, status_of-written, InputFaults-same, OutputFaults-puts}
+use Rattle.lab_commands.specs.Prelude.{OutputFaults-reads}
 use Rattle.lab_commands.proofs.commands.conf_command.Goals as goal
 
 pub returns-clause-statuses : goal.returns-clause-statuses

@@ -1,5 +1,4 @@
-use Rattle.lab_stop.specs.EndLaws.{status_of-written}
-use Rattle.lab_stop.specs.FaultLaws.{InputFaults-same}
+use Rattle.lab_commands.specs.Prelude.{status_of-written, InputFaults-same}
 use Rattle.lab_commands.proofs.Leaving.{CommandLeaves-made}
 use Rattle.lab_commands.proofs.commands.make_command.Goals as goal
 

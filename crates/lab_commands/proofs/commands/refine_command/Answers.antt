@@ -1,10 +1,6 @@
-use Rattle.std.specs.Prelude.{◌≡◌, ◌++◌, ℕ, List, Option, Err, OnErr, OnOk, string_bytes}
-use Rattle.std.specs.Option.{option_map}
-use Rattle.std.proofs.Common.{refl, subst}
-use Rattle.std.proofs.lemmas.Result.{err_from_is_err_and}
-use Rattle.lab_shelf.specs.Files.{Files, TookPart}
-use Rattle.lab_stop.specs.EndLaws.{EndsOf-written, EndsReliably-written, Refuses-written, status_of-read, status_of-written}
-use Rattle.lab_stop.specs.FaultLaws.{InputFaults-same, OutputFaults-puts, OutputFaults-reads}
+use Rattle.lab_commands.specs.Prelude.{List, refl, subst, ℕ, ◌++◌, ◌≡◌, err_from_is_err_and, option_map, Err, OnErr, OnOk, Option, string_bytes, Files}
+use Rattle.lab_commands.specs.Prelude.{TookPart, EndsOf-written, EndsReliably-written, Refuses-written, status_of-read, status_of-written, InputFaults-same}
+use Rattle.lab_commands.specs.Prelude.{OutputFaults-puts, OutputFaults-reads}
 use Rattle.lab_commands.proofs.Leaving.{CommandLeaves-answered}
 use Rattle.lab_commands.proofs.commands.refine_command.Goals as goal
 

@@ -1,12 +1,5 @@
-use Rattle.std.specs.Prelude.{ℕ, List, Option, Err}
-use Rattle.std.proofs.Common.{refl, ◌∙◌}
-use Rattle.std.proofs.lemmas.Result.{err_from_is_err_and}
-use Rattle.lab_input.specs.Read.{input_of}
-use Rattle.lab_phase.specs.PhaseRuns.{Stops, stops_by}
-use Rattle.lab_play.specs.Stops.{rises}
-use Rattle.lab_shelf.specs.Files.{Files}
-use Rattle.lab_stop.specs.EndLaws.{status_of-read, status_of-written}
-use Rattle.lab_stop.specs.FaultLaws.{FetchFaults-only, InputFaults-reads, InputFaults-same, OutputFaults-after, OutputFaults-reads}
+use Rattle.lab_commands.specs.Prelude.{List, refl, ℕ, ◌∙◌, err_from_is_err_and, Err, Option, Files, Stops, stops_by, status_of-read, status_of-written}
+use Rattle.lab_commands.specs.Prelude.{FetchFaults-only, InputFaults-reads, InputFaults-same, OutputFaults-after, OutputFaults-reads, input_of, rises}
 use Rattle.lab_commands.proofs.Leaving.{Finished-played, CommandLeaves-stopped}
 use Rattle.lab_commands.proofs.commands.run_command.Goals as goal
 

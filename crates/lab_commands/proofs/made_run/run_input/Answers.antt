@@ -1,14 +1,6 @@
-use Rattle.std.specs.Prelude.{◌≡◌, ℕ, Err, List, [], Some}
-use Rattle.std.proofs.Common.{ap, sym, subst, ◌∙◌}
-use Rattle.std.proofs.lemmas.Result.{err_from_is_err_and}
-use Rattle.lab_input.specs.Input.{RunInput}
-use Rattle.lab_input.specs.Read.{input_of}
-use Rattle.lab_phase.specs.Ended.{outcome_in}
-use Rattle.lab_phase.specs.PhaseRuns.{Stops, stops_by}
-use Rattle.lab_play.specs.Played.{HasPlayedAsking, HasPlayedPart}
-use Rattle.lab_play.specs.Stops.{rises}
+use Rattle.lab_commands.specs.Prelude.{ap, List, subst, sym, ℕ, [], ◌∙◌, ◌≡◌, err_from_is_err_and, Err, Some, outcome_in, Stops, stops_by, RunInput, input_of}
+use Rattle.lab_commands.specs.Prelude.{HasPlayedAsking, HasPlayedPart, rises, output_name}
 use Rattle.lab_stop.specs.declared.stop.Stop.TheVariants as stops
-use Rattle.lab_commands.specs.Made.{output_name}
 use Rattle.lab_commands.proofs.made_run.run_input.Goals as goal
 
 pub returns-in_err-outcome-clause-part : goal.returns-in_err-outcome-clause-part

@@ -1,15 +1,6 @@
-use Rattle.std.specs.Prelude.{◌≡◌, ℕ, ◌++◌, ℤ, List, Option, OnErr}
-use Rattle.std.specs.Option.{option_map}
-use Rattle.std.proofs.Common.{ap, subst, ◌∙◌}
-use Rattle.std.proofs.lemmas.Result.{err_from_is_err_and, on_err_weaker, on_ok_weaker}
-use Rattle.lab_make.specs.declared.summary.Summary.{Summary}
-use Rattle.lab_make.specs.declared.workload.Workload.{Workload}
-use Rattle.lab_make.specs.Summary.{IsSummaryOf, summary_text}
-use Rattle.lab_phase.specs.Ended.{outcome_in}
-use Rattle.lab_run.specs.LabRun.{Outcome}
+use Rattle.lab_commands.specs.Prelude.{ap, List, subst, ℕ, ◌++◌, ◌∙◌, ◌≡◌, err_from_is_err_and, on_err_weaker, on_ok_weaker, option_map, Option, ℤ, TookPart}
+use Rattle.lab_commands.specs.Prelude.{Outcome, outcome_in, Summary, Workload, IsSummaryOf, summary_text, HasPutSummary, HasPutSummaryPart}
 use Rattle.lab_shelf.specs.Changes.{TookPart-nothing}
-use Rattle.lab_shelf.specs.Files.{TookPart}
-use Rattle.lab_commands.specs.Made.{HasPutSummary, HasPutSummaryPart}
 use Rattle.lab_commands.proofs.made_summary.put_summary.Goals as goal
 
 -- the summary of what the run played

@@ -1,19 +1,7 @@
-use Rattle.std.specs.Prelude.{All, ℕ, List, Err, Ok, Option}
-use Rattle.std.specs.Option.{option_map}
-use Rattle.std.proofs.Common.{◌≡◌, ap, refl, sym, subst, inr, ◌∙◌}
-use Rattle.std.proofs.lemmas.Result.{err_from_is_err_and, on_err_weaker, on_ok_weaker}
-use Rattle.lab_input.specs.Input.{RunInput}
-use Rattle.lab_input.specs.Read.{input_of}
-use Rattle.lab_make.specs.declared.workload.Workload.{Workload}
-use Rattle.lab_make.specs.Files.{IsMadeSound}
-use Rattle.lab_phase.specs.Ended.{outcome_in}
-use Rattle.lab_phase.specs.PhaseRuns.{Stops, stops_by}
-use Rattle.lab_play.specs.Stops.{rises}
-use Rattle.lab_lines.specs.Limits.{IsScript}
-use Rattle.lab_shelf.specs.Files.{Files, IsPartWritten, with_file}
-use Rattle.lab_stop.specs.FaultLaws.{OutputFaults-after, OutputFaults-kept, OutputFaults-memory, OutputFaults-puts, OutputFaults-writes}
-use Rattle.lab_commands.specs.Made.{report_name}
-use Rattle.lab_make.specs.Stored.{IsReadBack}
+use Rattle.lab_commands.specs.Prelude.{ap, inr, List, refl, subst, ℕ, ◌∙◌, err_from_is_err_and, on_err_weaker, on_ok_weaker, option_map, All, Err, Ok, Option}
+use Rattle.lab_commands.specs.Prelude.{Files, IsPartWritten, with_file, IsScript, outcome_in, Stops, stops_by, OutputFaults-after, OutputFaults-kept}
+use Rattle.lab_commands.specs.Prelude.{OutputFaults-memory, OutputFaults-puts, OutputFaults-writes, RunInput, input_of, Workload, IsMadeSound, IsReadBack}
+use Rattle.lab_commands.specs.Prelude.{rises, report_name}
 use Rattle.lab_commands.proofs.MadeParts.{IsMade-all, IsMadePart-before, IsMadePart-report, IsMadePart-run, IsMadePart-summary}
 use Rattle.lab_commands.proofs.making.make_workload.Goals as goal
 

@@ -1,6 +1,4 @@
-use Rattle.std.proofs.Common.{sym, ◌∙◌}
-use Rattle.lab_stop.specs.EndLaws.{InputFaults-other, OnOk-done, OutputFaults-other}
-use Rattle.lab_commands.specs.Words.{form_of, texts}
+use Rattle.lab_commands.specs.Prelude.{sym, ◌∙◌, InputFaults-other, OnOk-done, OutputFaults-other, form_of, texts}
 use Rattle.lab_commands.proofs.Ends.{SaysWhy-stop, status_of-no, status_of-text, status_of-wav, status_of-reliable}
 use Rattle.lab_commands.proofs.Only.{DoneIn-only}
 use Rattle.lab_commands.proofs.top.dmixlab.Goals as goal

@@ -1,5 +1,4 @@
-use Rattle.std.proofs.Common.{rules}
-use Rattle.lab_commands.specs.Words.{help_text}
+use Rattle.lab_commands.specs.Prelude.{rules, help_text}
 use Rattle.lab_commands.proofs.words.help.Goals as goal
 
 pub returns : goal.returns

@@ -1,7 +1,5 @@
-use Rattle.std.proofs.Common.{sym, Err, Ok}
-use Rattle.lab_input.specs.Read.{input_of}
-use Rattle.lab_stop.specs.ReadLaws.{AnswersFrom-last, AnswersFrom-passed, IsSameShelf-same}
-use Rattle.lab_stop.specs.TestLaws.{IsSameShelf-tests, OnlyTests-after, OnlyTests-passed}
+use Rattle.lab_compare.specs.Prelude.{Err, sym, Ok, AnswersFrom-last, AnswersFrom-passed, IsSameShelf-same, IsSameShelf-tests, OnlyTests-after}
+use Rattle.lab_compare.specs.Prelude.{OnlyTests-passed, input_of}
 use Rattle.lab_compare.proofs.Checks.{outputs_in-of}
 use Rattle.lab_compare.proofs.checking.check_outputs.Goals as goal
 

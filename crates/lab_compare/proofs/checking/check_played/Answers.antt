@@ -1,12 +1,5 @@
-use Rattle.std.proofs.Common.{◌≡◌, ◌∙◌, List, ap, arith, length, subst, sym}
-use Rattle.lab_check.specs.Defects.{HasTestedSegments}
-use Rattle.lab_check.specs.Samples.{played_samples}
-use Rattle.lab_input.specs.Read.{input_of}
-use Rattle.lab_output.specs.FileLaws.{IsOutputFile-played}
-use Rattle.lab_output.specs.Files.{IsOutputFile}
-use Rattle.lab_stop.specs.ReadLaws.{AnswersFrom-last, AnswersFrom-memory, IsSameShelf-same}
-use Rattle.lab_stop.specs.TestLaws.{OnlyTests-memory}
-use Rattle.wav_io.specs.Sound.{Sound}
+use Rattle.lab_compare.specs.Prelude.{ap, arith, length, List, subst, sym, ◌∙◌, ◌≡◌, Sound, HasTestedSegments, played_samples, AnswersFrom-last}
+use Rattle.lab_compare.specs.Prelude.{AnswersFrom-memory, IsSameShelf-same, OnlyTests-memory, input_of, IsOutputFile-played, IsOutputFile}
 use Rattle.lab_compare.proofs.Checks.{played_in-of}
 use Rattle.lab_compare.proofs.checking.check_played.Goals as goal
 

@@ -1,10 +1,5 @@
-use Rattle.std.proofs.Common.{ap, arith, length, subst, sym}
-use Rattle.std.proofs.lemmas.Option.{slice_get_within}
-use Rattle.lab_input.specs.Read.{input_of}
-use Rattle.lab_output.specs.FileLaws.{IsOutputFile-recorded}
-use Rattle.lab_output.specs.Files.{IsOutputFile}
-use Rattle.lab_stop.specs.ReadLaws.{AnswersFrom-last, AnswersFrom-memory, IsSameShelf-same}
-use Rattle.lab_stop.specs.TestLaws.{OnlyTests-memory}
+use Rattle.lab_compare.specs.Prelude.{ap, arith, length, subst, sym, slice_get_within, AnswersFrom-last, AnswersFrom-memory, IsSameShelf-same, OnlyTests-memory}
+use Rattle.lab_compare.specs.Prelude.{input_of, IsOutputFile-recorded, IsOutputFile}
 use Rattle.lab_compare.proofs.Checks.{reader-line, reader_samples-taken, recording_in-of}
 use Rattle.lab_compare.proofs.checking.check_recording.Goals as goal
 

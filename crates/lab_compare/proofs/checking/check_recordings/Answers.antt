@@ -1,10 +1,6 @@
-use Rattle.std.proofs.Common.{◌≡◌, ◌∙◌, ◌+◌, ◌<◌, ◌≤◌, ℕ, List, ap, arith, get_or, length, refl, subst, sym}
-use Rattle.std.proofs.lemmas.Option.{slice_get_read}
-use Rattle.std.specs.Prelude.{Err, Ok, slice_get}
-use Rattle.lab_input.specs.Read.{input_of}
-use Rattle.lab_lines.specs.declared.script.ReaderLine.{ReaderLine}
-use Rattle.lab_stop.specs.ReadLaws.{AnswersFrom-passed, IsSameShelf-same, IsSameShelf-then}
-use Rattle.lab_stop.specs.TestLaws.{IsSameShelf-tests, OnlyTests-after, OnlyTests-done, OnlyTests-passed}
+use Rattle.lab_compare.specs.Prelude.{ap, arith, Err, get_or, length, List, refl, subst, sym, ℕ, ◌+◌, ◌<◌, ◌∙◌, ◌≡◌, ◌≤◌, slice_get_read, Ok, slice_get}
+use Rattle.lab_compare.specs.Prelude.{ReaderLine, AnswersFrom-passed, IsSameShelf-same, IsSameShelf-then, IsSameShelf-tests, OnlyTests-after, OnlyTests-done}
+use Rattle.lab_compare.specs.Prelude.{OnlyTests-passed, input_of}
 use Rattle.lab_compare.proofs.Checks.{recordings_in-all, recordings_in-next}
 use Rattle.lab_compare.proofs.checking.check_recordings.Goals as goal
 

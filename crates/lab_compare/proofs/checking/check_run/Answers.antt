@@ -1,10 +1,5 @@
-use Rattle.std.proofs.Common.{◌≡◌, ◌∙◌, subst, sym, Err, Ok}
-use Rattle.std.specs.Prelude.{Option}
-use Rattle.lab_input.specs.Read.{input_of}
-use Rattle.lab_shelf.specs.Files.{Files}
-use Rattle.lab_stop.specs.ReadLaws.{AnswersFrom-last, AnswersFrom-passed, IsSameShelf-reads, IsSameShelf-same, IsSameShelf-then}
-use Rattle.lab_stop.specs.TestLaws.{IsSameShelf-tests, OnlyTests-after, OnlyTests-passed, OnlyTests-reads}
-use Rattle.lab_compare.specs.Checking.{IsReportIn}
+use Rattle.lab_compare.specs.Prelude.{Err, subst, sym, ◌∙◌, ◌≡◌, Ok, Option, Files, AnswersFrom-last, AnswersFrom-passed, IsSameShelf-reads, IsSameShelf-same}
+use Rattle.lab_compare.specs.Prelude.{IsSameShelf-then, IsSameShelf-tests, OnlyTests-after, OnlyTests-passed, OnlyTests-reads, input_of, IsReportIn}
 use Rattle.lab_compare.proofs.CheckedFiles.{IsCheckedRun-done}
 use Rattle.lab_compare.proofs.Checks.{check_in-input, check_in-read}
 use Rattle.lab_compare.proofs.checking.check_run.Goals as goal

@@ -1,7 +1,4 @@
-use Rattle.std.proofs.Common.{Err}
-use Rattle.lab_input.specs.Read.{input_of}
-use Rattle.lab_stop.specs.ReadLaws.{AnswersFrom-passed, IsSameShelf-same}
-use Rattle.lab_stop.specs.TestLaws.{OnlyTests-passed, OnlyTests-reads}
+use Rattle.lab_compare.specs.Prelude.{Err, AnswersFrom-passed, IsSameShelf-same, OnlyTests-passed, OnlyTests-reads, input_of}
 use Rattle.lab_compare.proofs.Checks.{Misses-test, TestFaults-passed, tested-answers, tested-held, tested_in-of}
 use Rattle.lab_compare.proofs.checking.load_report.Goals as goal
 

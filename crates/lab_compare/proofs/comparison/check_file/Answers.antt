@@ -1,7 +1,5 @@
-use Rattle.std.proofs.Common.{ap, ◌∙◌, Err}
-use Rattle.lab_stop.specs.ReadLaws.{AnswersFrom-passed, IsSameShelf-reads, IsSameShelf-same}
-use Rattle.lab_stop.specs.TestLaws.{OnlyTests-done, OnlyTests-passed, OnlyTests-reads}
-use Rattle.lab_compare.specs.Checking.{same_or_line}
+use Rattle.lab_compare.specs.Prelude.{ap, Err, ◌∙◌, AnswersFrom-passed, IsSameShelf-reads, IsSameShelf-same, OnlyTests-done, OnlyTests-passed, OnlyTests-reads}
+use Rattle.lab_compare.specs.Prelude.{same_or_line}
 use Rattle.lab_compare.proofs.Checks.{same_in-of}
 use Rattle.lab_compare.proofs.comparison.check_file.Goals as goal
 

@@ -1,11 +1,9 @@
-use Rattle.std.proofs.Common.{◌≡◌, ◌+◌, ◌*◌, length, arith, inl, inr, refl, sym}
-use Rattle.std.proofs.lemmas.Bool.Decides.{nat_tests}
-use Rattle.lab_output.specs.FileLaws.{length-canonical}
-use Rattle.lab_output.specs.Files.{finished_file, sound_of}
-use Rattle.lab_stop.specs.ReadLaws.{AnswersFrom-memory, AnswersFrom-passed, IsSameShelf-reads, IsSameShelf-same, IsSameShelf-then, OnlyReads-after, OnlyReads-done, OnlyReads-memory, OnlyReads-passed}
+use Rattle.lab_compare.specs.Prelude.{arith, inl, inr, length, refl, sym, ◌*◌, ◌+◌, ◌≡◌, nat_tests, AnswersFrom-memory, AnswersFrom-passed, IsSameShelf-reads}
+use Rattle.lab_compare.specs.Prelude.{IsSameShelf-same, IsSameShelf-then, OnlyReads-after, OnlyReads-done, OnlyReads-memory, OnlyReads-passed, length-canonical}
+use Rattle.lab_compare.specs.Prelude.{finished_file, sound_of}
 use Rattle.lab_compare.proofs.Comparing.{IsComparing-next, IsEven-next, IsEven-rest, is_same_in-all, is_same_in-missing}
-use Rattle.lab_compare.proofs.comparison.is_same_file.Goals as goal
 use Rattle.lab_compare.proofs.comparison.is_same_file.Goals.{then-loop-is_last-test+else-from-size, else-loop-is_last-test}
+use Rattle.lab_compare.proofs.comparison.is_same_file.Goals as goal
 
 pub canonical_piece-requires-clause-even : goal.canonical_piece-requires-clause-even
 canonical_piece-requires-clause-even g c = IsEven-rest _ (c.loop-is_last.invariant.even c.if-from-size.true)

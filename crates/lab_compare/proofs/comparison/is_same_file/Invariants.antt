@@ -1,5 +1,4 @@
-use Rattle.std.proofs.Common.{◌-◌, ◌+◌, cond}
-use Rattle.lab_output.specs.Files.{finished_file}
+use Rattle.lab_compare.specs.Prelude.{cond, ◌+◌, ◌-◌, finished_file}
 use Rattle.lab_compare.proofs.Comparing.{Comparing}
 use Rattle.lab_compare.proofs.comparison.is_same_file.Given as goal
 

@@ -1,5 +1,4 @@
-use Rattle.std.proofs.Common.{length, ap, arith}
-use Rattle.wav_io.specs.Sound.{Sound}
+use Rattle.lab_input.specs.Prelude.{ap, arith, length, Sound}
 use Rattle.lab_input.proofs.sound.weight.Goals as goal
 
 pub overflow_mul-len : goal.overflow_mul-len

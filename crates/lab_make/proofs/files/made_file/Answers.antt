@@ -1,6 +1,5 @@
 -- The file has the samples that were drawn.
-use Rattle.std.proofs.Common.{List, ℤ, ap, ◌∙◌}
-use Rattle.wav_io.specs.Sound.{Sound}
+use Rattle.lab_make.specs.Prelude.{ap, List, ℤ, ◌∙◌, Sound}
 use Rattle.lab_make.proofs.Refused.{IfOk-err}
 use Rattle.lab_make.proofs.files.made_file.Goals as goal
 

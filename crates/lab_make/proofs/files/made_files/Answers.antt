@@ -1,11 +1,7 @@
 -- The generator goes on from file to file.
-use Rattle.std.proofs.Common.{◌≡◌, ℕ, ◌*◌, ◌≤◌, All, List, length, get_or, map, subst, ap, ◌∙◌, sym, refl, arith}
-use Rattle.std.specs.List.{range_with_len}
-use Rattle.std.proofs.lemmas.List.FromFn.{get_or-map-range_with_len, length-map-range_with_len}
-use Rattle.wav_io.specs.Sound.{Sound}
-use Rattle.rand_pcg.specs.Pcg.{multiplier_64}
-use Rattle.rand_pcg.proofs.LcgLemmas.{advance_zero}
-use Rattle.lab_make.specs.Files.{IsMadeSound, after_words, generator_of, made_sound, made_sounds, next_sample}
+use Rattle.lab_make.specs.Prelude.{ap, arith, get_or, length, List, map, refl, subst, sym, ℕ, ◌*◌, ◌∙◌, ◌≡◌, ◌≤◌, get_or-map-range_with_len}
+use Rattle.lab_make.specs.Prelude.{length-map-range_with_len, range_with_len, All, advance_zero, multiplier_64, Sound, after_words, generator_of, IsMadeSound}
+use Rattle.lab_make.specs.Prelude.{made_sound, made_sounds, next_sample}
 use Rattle.lab_make.proofs.Generator.{after_words-file, files-push}
 use Rattle.lab_make.proofs.Refused.{IfOk-err}
 use Rattle.lab_make.proofs.files.made_files.Goals as goal

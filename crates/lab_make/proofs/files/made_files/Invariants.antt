@@ -1,7 +1,5 @@
 -- The files so far are those of the first clients.
-use Rattle.std.proofs.Common.{◌≡◌, ◌*◌, map}
-use Rattle.std.specs.List.{range_with_len}
-use Rattle.lab_make.specs.Files.{after_words, generator_of, made_sound}
+use Rattle.lab_make.specs.Prelude.{map, ◌*◌, ◌≡◌, range_with_len, after_words, generator_of, made_sound}
 use Rattle.lab_make.proofs.files.made_files.Given as goal
 
 abbrev pub invariant-loop-client : goal.invariant-loop-client

@@ -1,11 +1,7 @@
 -- A sample is drawn from each word, up to the last.
-use Rattle.std.proofs.Common.{◌≡◌, ◌∷◌, ◌++◌, [], ap, ◌∙◌, sym, map, arith, rules, FitsSigned}
+use Rattle.lab_make.specs.Prelude.{ap, arith, FitsSigned, map, rules, sym, [], ◌++◌, ◌∙◌, ◌∷◌, ◌≡◌, to_z-of_z, range_with_len, advance_zero, multiplier_64}
+use Rattle.lab_make.specs.Prelude.{after_words, next_sample}
 use Rattle.std.specs.Int.{w16}
-use Rattle.std.proofs.lemmas.Int.{to_z-of_z}
-use Rattle.std.specs.List.{range_with_len}
-use Rattle.rand_pcg.specs.Pcg.{multiplier_64}
-use Rattle.rand_pcg.proofs.LcgLemmas.{advance_zero}
-use Rattle.lab_make.specs.Files.{after_words, next_sample}
 use Rattle.lab_make.proofs.Generator.{after_words-next, samples-push}
 use Rattle.lab_make.proofs.Refused.{IfOk-err}
 use Rattle.lab_make.proofs.files.made_samples.Goals as goal

@@ -1,7 +1,5 @@
 -- A sample is drawn from each word so far.
-use Rattle.std.proofs.Common.{◌≡◌, map}
-use Rattle.std.specs.List.{range_with_len}
-use Rattle.lab_make.specs.Files.{after_words, next_sample}
+use Rattle.lab_make.specs.Prelude.{map, ◌≡◌, range_with_len, after_words, next_sample}
 use Rattle.lab_make.proofs.files.made_samples.Given as goal
 
 abbrev pub invariant-loop-index : goal.invariant-loop-index

@@ -1,6 +1,5 @@
 -- What the two parts are, and where one of them isn't made.
-use Rattle.std.proofs.Common.{◌∙◌}
-use Rattle.std.proofs.lemmas.Result.{err_from_is_err_and}
+use Rattle.lab_make.specs.Prelude.{◌∙◌, err_from_is_err_and}
 use Rattle.lab_make.proofs.Refused.{IfOk-err}
 use Rattle.lab_make.proofs.input.make.Goals as goal
 

@@ -1,15 +1,10 @@
 -- The text is read as its script, so that the reader refuses it for want of memory alone.
-use Rattle.std.proofs.Common.{◌≡◌, ◌≤◌, ℕ, List, length, Result, Ok, Err, ap, sym, ◌∙◌, refl}
-use Rattle.std.proofs.lemmas.List.FromFn.{length-map-range_with_len}
-use Rattle.lab_script.specs.declared.error.ScriptError.{ScriptError}
+use Rattle.lab_make.specs.Prelude.{ap, length, List, Ok, refl, sym, ℕ, ◌∙◌, ◌≡◌, ◌≤◌, length-map-range_with_len, Err, Result, Script, ScriptError, RefusesAt}
+use Rattle.lab_make.specs.Prelude.{script_of, made_text, made_client, made_script}
 use Rattle.lab_script.specs.declared.error.ScriptWhy.{ScriptWhy}
-use Rattle.lab_script.specs.declared.error.ScriptWhy.TheVariants as why
-use Rattle.lab_lines.specs.declared.script.Script.{Script}
-use Rattle.lab_script.specs.Reading.{RefusesAt, script_of}
-use Rattle.lab_make.specs.Lines.{made_text}
-use Rattle.lab_make.specs.Script.{made_client, made_script}
-use Rattle.lab_make.proofs.Turns.{script_of-made_text}
 use Rattle.lab_make.proofs.Refused.{IfOk-err}
+use Rattle.lab_make.proofs.Turns.{script_of-made_text}
+use Rattle.lab_script.specs.declared.error.ScriptWhy.TheVariants as why
 use Rattle.lab_make.proofs.script.made_script.Goals as goal
 
 -- the script of an answer, where there is one

@@ -1,7 +1,4 @@
-use Rattle.std.proofs.Common.{◌≡◌, ◌≤◌, ℕ, List, length, ap, sym, subst, ◌∙◌}
-use Rattle.std.specs.Prelude.{Ok}
-use Rattle.wav_io.specs.Canonical.{canonical}
-use Rattle.wav_io.specs.Reading.{most_bytes, wav_file}
+use Rattle.lab_make.specs.Prelude.{ap, length, List, subst, sym, ℕ, ◌∙◌, ◌≤◌, most_bytes, wav_file}
 use Rattle.lab_make.proofs.SoundSizes.{length-made-few}
 use Rattle.lab_make.proofs.storage.client_bytes.Goals as goal
 

@@ -1,11 +1,5 @@
-use Rattle.std.specs.Prelude.{◌≡◌, ℕ, List, Option, Err}
-use Rattle.std.specs.Option.{option_map}
-use Rattle.std.proofs.Common.{refl, subst, ◌∙◌}
-use Rattle.std.proofs.lemmas.Result.{on_err_weaker, on_ok_weaker}
-use Rattle.wav_io.specs.Canonical.{canonical}
-use Rattle.lab_shelf.specs.Files.{Files, IsPartWritten, with_file}
-use Rattle.lab_stop.specs.declared.stop.Stop.TheVariants.{Memory}
-use Rattle.lab_stop.specs.EffectLaws.{OnlyWrites-memory, OnlyWrites-nothing, OnlyWrites-passed}
+use Rattle.lab_make.specs.Prelude.{List, refl, subst, ℕ, ◌∙◌, ◌≡◌, on_err_weaker, on_ok_weaker, option_map, Err, Option, canonical, Files, IsPartWritten}
+use Rattle.lab_make.specs.Prelude.{with_file, Memory, OnlyWrites-memory, OnlyWrites-nothing, OnlyWrites-passed}
 use Rattle.lab_make.proofs.MemoryStops.{Err-memory, OnErr-memory, OnOk-memory, memory-no_write}
 use Rattle.lab_make.proofs.storage.store_client.Goals as goal
 

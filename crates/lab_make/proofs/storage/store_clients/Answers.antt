@@ -1,8 +1,5 @@
-use Rattle.std.proofs.Common.{refl}
-use Rattle.std.proofs.lemmas.List.Elements.{All-nil}
-use Rattle.std.proofs.lemmas.Result.{err_from_is_err_and}
-use Rattle.lab_stop.specs.EffectLaws.{CountsNoFault-same, CountsNoFault-writes, OnlyWrites-after, OnlyWrites-done, OnlyWrites-passed}
-use Rattle.lab_make.specs.Stored.{IsReadBack}
+use Rattle.lab_make.specs.Prelude.{refl, All-nil, err_from_is_err_and, CountsNoFault-same, CountsNoFault-writes, OnlyWrites-after, OnlyWrites-done}
+use Rattle.lab_make.specs.Prelude.{OnlyWrites-passed, IsReadBack}
 use Rattle.lab_make.proofs.Storing.{Storing-all, Storing-next, Storing-read, Storing-stop}
 use Rattle.lab_make.proofs.storage.store_clients.Goals as goal
 

@@ -1,10 +1,5 @@
-use Rattle.std.proofs.Common.{ap, inl, inr, subst, ◌∙◌}
-use Rattle.std.proofs.lemmas.Result.{err_from_is_err_and, on_err_weaker, on_ok_weaker}
-use Rattle.std.specs.Prelude.{Option}
-use Rattle.std.specs.Option.{option_map}
-use Rattle.lab_shelf.specs.Files.{Files, IsPartWritten, with_file}
-use Rattle.lab_stop.specs.EffectLaws.{CountsNoFault-writes, OnlyWrites-after, OnlyWrites-passed}
-use Rattle.lab_make.specs.Stored.{script_name}
+use Rattle.lab_make.specs.Prelude.{ap, inl, inr, subst, ◌∙◌, err_from_is_err_and, on_err_weaker, on_ok_weaker, option_map, Option, Files, IsPartWritten}
+use Rattle.lab_make.specs.Prelude.{with_file, CountsNoFault-writes, OnlyWrites-after, OnlyWrites-passed, script_name}
 use Rattle.lab_make.proofs.Storing.{with_input-joined}
 use Rattle.lab_make.proofs.storage.store_input.Goals as goal
 

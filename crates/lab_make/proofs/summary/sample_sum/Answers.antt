@@ -1,7 +1,5 @@
 -- Each sample has 16 bits.
-use Rattle.std.proofs.Common.{arith}
-use Rattle.std.proofs.lemmas.Int.{ints, to_z-of_z}
-use Rattle.std.proofs.lemmas.List.Sums.{fold_more}
+use Rattle.lab_make.specs.Prelude.{arith, ints, to_z-of_z, fold_more}
 use Rattle.lab_make.proofs.summary.sample_sum.Goals as goal
 
 pub loop-sample-preserved : goal.loop-sample-preserved

@@ -1,6 +1,5 @@
 -- The words of the segments so far, and a limit for them.
-use Rattle.std.proofs.Common.{◌≡◌, ◌*◌, ◌≤◌, ◌+◌, ◌^◌, sum_by, take}
-use Rattle.lab_make.specs.Summary.{words_laid}
+use Rattle.lab_make.specs.Prelude.{sum_by, take, ◌*◌, ◌+◌, ◌^◌, ◌≡◌, ◌≤◌, words_laid}
 use Rattle.lab_make.proofs.summary.words_laid.Given as goal
 
 abbrev pub invariant-loop-client : goal.invariant-loop-client

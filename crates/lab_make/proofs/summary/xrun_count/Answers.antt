@@ -1,7 +1,5 @@
 -- One row more, which counts where it is answered EPIPE.
-use Rattle.std.proofs.Common.{arith, sym, ◌∙◌}
-use Rattle.std.proofs.lemmas.List.Sums.{count_by_more_no, count_by_more_yes}
-use Rattle.lab_make.specs.Summary.{is_pipe}
+use Rattle.lab_make.specs.Prelude.{arith, sym, ◌∙◌, count_by_more_no, count_by_more_yes, is_pipe}
 use Rattle.lab_make.proofs.summary.xrun_count.Goals.{else-is_pipe, then-is_pipe}
 use Rattle.lab_make.proofs.summary.xrun_count.Goals as goal
 

@@ -1,6 +1,5 @@
 -- The rows so far that are answered EPIPE.
-use Rattle.std.proofs.Common.{◌≡◌, take}
-use Rattle.lab_make.specs.Summary.{xrun_count}
+use Rattle.lab_make.specs.Prelude.{take, ◌≡◌, xrun_count}
 use Rattle.lab_make.proofs.summary.xrun_count.Given as goal
 
 abbrev pub invariant-loop-row : goal.invariant-loop-row

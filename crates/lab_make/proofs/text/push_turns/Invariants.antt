@@ -1,8 +1,5 @@
 -- The lines so far are those of the first turns.
-use Rattle.std.proofs.Common.{◌≡◌, ◌++◌, string_bytes}
-use Rattle.std.specs.List.{flat_map, range_with_len}
-use Rattle.text_words.specs.Lexing.{lines_text}
-use Rattle.lab_make.specs.Lines.{turn_lines}
+use Rattle.lab_make.specs.Prelude.{string_bytes, ◌++◌, ◌≡◌, flat_map, range_with_len, lines_text, turn_lines}
 use Rattle.lab_make.proofs.text.push_turns.Given as goal
 
 abbrev pub invariant-loop-turn : goal.invariant-loop-turn

@@ -1,8 +1,5 @@
 -- The lines so far are those of the first clients.
-use Rattle.std.proofs.Common.{◌≡◌, ◌++◌, map, string_bytes}
-use Rattle.std.specs.List.{range_with_len}
-use Rattle.text_words.specs.Lexing.{lines_text}
-use Rattle.lab_make.specs.Lines.{write_words}
+use Rattle.lab_make.specs.Prelude.{map, string_bytes, ◌++◌, ◌≡◌, range_with_len, lines_text, write_words}
 use Rattle.lab_make.proofs.text.push_writes.Given as goal
 
 abbrev pub invariant-loop-client : goal.invariant-loop-client

@@ -1,5 +1,4 @@
-use Rattle.lab_stop.specs.EffectLaws.{OnlyWrites-written}
-use Rattle.lab_stop.specs.Writing.{OnOk-written, OnErr-written, written-no_write}
+use Rattle.lab_output.specs.Prelude.{OnlyWrites-written, OnErr-written, OnOk-written, written-no_write}
 use Rattle.lab_output.proofs.Held.{no-failure}
 use Rattle.lab_output.proofs.append.append_bytes.Goals as goal
 

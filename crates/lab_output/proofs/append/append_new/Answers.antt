@@ -1,9 +1,5 @@
-use Rattle.std.proofs.Common.{◌≡◌, [], ap, sym, ◌∙◌}
-use Rattle.std.proofs.lemmas.Bool.{eqb-true}
-use Rattle.std.proofs.lemmas.List.{nil_from_length}
-use Rattle.std.specs.List.{flat_map}
-use Rattle.wav_io.specs.Canonical.{sample_bytes}
-use Rattle.lab_stop.specs.EffectLaws.{CountsNoFault-same, OnlyWrites-done, OnlyWrites-memory}
+use Rattle.lab_output.specs.Prelude.{ap, sym, [], ◌∙◌, ◌≡◌, eqb-true, nil_from_length, flat_map, sample_bytes, CountsNoFault-same, OnlyWrites-done}
+use Rattle.lab_output.specs.Prelude.{OnlyWrites-memory}
 use Rattle.lab_output.proofs.Shelves.{appended-nothing}
 use Rattle.lab_output.proofs.append.append_new.Goals as goal
 

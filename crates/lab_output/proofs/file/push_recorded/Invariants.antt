@@ -1,6 +1,5 @@
 -- The files so far are those of the readers so far.
-use Rattle.std.proofs.Common.{◌≡◌, ◌++◌, map, take}
-use Rattle.lab_output.specs.Files.{recorded_file}
+use Rattle.lab_output.specs.Prelude.{map, take, ◌++◌, ◌≡◌, recorded_file}
 use Rattle.lab_output.proofs.file.push_recorded.Given as goal
 
 abbrev pub invariant-loop-reader : goal.invariant-loop-reader

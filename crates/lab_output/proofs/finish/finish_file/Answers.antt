@@ -1,10 +1,5 @@
-use Rattle.std.proofs.Common.{◌≡◌, ℕ, ◌/◌, ap, sym, subst, ◌∙◌}
-use Rattle.std.proofs.lemmas.Result.{on_err_weaker, on_ok_weaker}
-use Rattle.wav_io.specs.Canonical.{head}
-use Rattle.lab_stop.specs.EffectLaws.{OnlyWrites-written}
-use Rattle.lab_stop.specs.Writing.{OnOk-written, OnErr-written, written-no_write}
-use Rattle.lab_output.specs.Files.{head_of}
-use Rattle.lab_output.specs.Going.{HasFile}
+use Rattle.lab_output.specs.Prelude.{ap, subst, sym, ℕ, ◌/◌, ◌∙◌, ◌≡◌, on_err_weaker, on_ok_weaker, head, OnlyWrites-written, OnErr-written, OnOk-written}
+use Rattle.lab_output.specs.Prelude.{written-no_write, head_of, HasFile}
 use Rattle.lab_output.proofs.Going.{named-closed, named-part}
 use Rattle.lab_output.proofs.Held.{no-failure}
 use Rattle.lab_output.proofs.finish.finish_file.Goals as goal

@@ -1,6 +1,4 @@
-use Rattle.std.proofs.Common.{refl}
-use Rattle.std.proofs.lemmas.Result.{err_from_is_err_and}
-use Rattle.lab_stop.specs.EffectLaws.{CountsNoFault-same, CountsNoFault-writes, OnlyWrites-after, OnlyWrites-done, OnlyWrites-passed}
+use Rattle.lab_output.specs.Prelude.{refl, err_from_is_err_and, CountsNoFault-same, CountsNoFault-writes, OnlyWrites-after, OnlyWrites-done, OnlyWrites-passed}
 use Rattle.lab_output.proofs.Held.{file-at}
 use Rattle.lab_output.proofs.Steps.{Closing-next, Closing-stop, Closing-all, room-at}
 use Rattle.lab_output.proofs.finish.finish_files.Goals as goal

@@ -1,9 +1,6 @@
-use Rattle.std.proofs.Common.{◌≡◌, ℕ, List, length, rules, sym, subst}
-use Rattle.std.specs.Prelude.{All}
-use Rattle.lab_output.specs.declared.file.OutputFile.{OutputFile}
-use Rattle.lab_output.specs.Files.{IsOutputFile, AreApart}
-use Rattle.lab_output.proofs.Names.{output_files-AreApart}
+use Rattle.lab_output.specs.Prelude.{length, List, rules, subst, sym, ℕ, ◌≡◌, All, OutputFile, AreApart, IsOutputFile}
 use Rattle.lab_output.proofs.Heads.{output_files-heads, few-nothing}
+use Rattle.lab_output.proofs.Names.{output_files-AreApart}
 use Rattle.lab_output.proofs.outputs.outputs_of.Goals as goal
 
 pub returns-clause-outputs : goal.returns-clause-outputs

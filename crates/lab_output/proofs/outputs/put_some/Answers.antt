@@ -1,7 +1,4 @@
-use Rattle.std.proofs.Common.{sym, ◌∙◌}
-use Rattle.std.proofs.lemmas.Bool.{eqb-true}
-use Rattle.std.proofs.lemmas.List.{nil_from_length}
-use Rattle.lab_stop.specs.EffectLaws.{PutsText-nothing}
+use Rattle.lab_output.specs.Prelude.{sym, ◌∙◌, eqb-true, nil_from_length, PutsText-nothing}
 use Rattle.lab_output.proofs.outputs.put_some.Goals as goal
 
 pub returns-then-is_empty : goal.returns-then-is_empty

@@ -1,13 +1,6 @@
-use Rattle.std.proofs.Common.{◌≡◌, ◌∙◌, ap, subst, sym}
-use Rattle.snd_base.specs.declared.geometry.Geometry.{Geometry}
-use Rattle.mix_core.specs.History.{AreInOrder, AreExact}
-use Rattle.sum_table.specs.declared.seats.mix.MixSeat.{MixSeat}
-use Rattle.sum_table.specs.declared.seats.player.PlayerSeat.{PlayerSeat}
+use Rattle.lab_phase.specs.Prelude.{ap, subst, sym, ◌∙◌, ◌≡◌, Geometry, AreExact, AreInOrder, MixSeat, PlayerSeat, track_of, key_of, view_of, Card}
+use Rattle.lab_phase.specs.Prelude.{geometry_of_card, seat_of_card}
 use Rattle.sum_table.specs.declared.view.Key.{Key}
-use Rattle.sum_table.specs.Players.{track_of}
-use Rattle.sum_table.specs.Seats.{key_of, view_of}
-use Rattle.card_sim.specs.declared.card.Card.{Card}
-use Rattle.lab_card.specs.Moves.{geometry_of_card, seat_of_card}
 use Rattle.lab_phase.proofs.finish.close_rings.Goals as goal
 
 pub close-closed-requires-clause-all_places : goal.close-closed-requires-clause-all_places

@@ -1,12 +1,5 @@
-use Rattle.std.proofs.Common.{◌≡◌, ◌≤◌, ◌+◌, ◌++◌, ◌∙◌, ℕ, Bool, if◌then◌else◌, List, [], ap, arith, length, refl, vec_len}
-use Rattle.std.specs.Global.{Vec}
-use Rattle.lab_lines.specs.declared.line.Line.{Line}
-use Rattle.lab_lines.specs.Script.{is_of_card}
-use Rattle.lab_lines.specs.declared.row.Row.{Row}
-use Rattle.lab_run.specs.Phases.{card_rows, ops_by}
-use Rattle.lab_card.specs.Moves.{frame_of_card}
-use Rattle.lab_phase.specs.Alone.{own-at-most}
-use Rattle.lab_phase.specs.PhaseLaws.{length-card_rows}
+use Rattle.lab_phase.specs.Prelude.{ap, arith, if◌then◌else◌, refl, ◌+◌, ◌∙◌, ◌≡◌, Vec, Bool, length, List, vec_len, ℕ, [], ◌++◌, ◌≤◌, Line, Row, is_of_card}
+use Rattle.lab_phase.specs.Prelude.{card_rows, ops_by, frame_of_card, own-at-most, length-card_rows}
 use Rattle.lab_phase.proofs.phase.play_alone.Goals as goal
 
 -- the card's rows are no more than the lines of a phase

@@ -1,11 +1,5 @@
-use Rattle.std.proofs.Common.{List, ◌++◌, ap, arith, length, refl, subst}
-use Rattle.lab_lines.specs.declared.row.Row.{Row}
-use Rattle.lab_card.specs.declared.card.CardActor.{CardActor}
-use Rattle.lab_card.specs.MeetLaws.{IsSameCard-joined}
-use Rattle.lab_readers.specs.StepLaws.{AreOf-same}
-use Rattle.lab_phase.specs.BorderLaws.{OnErr-always}
-use Rattle.lab_phase.specs.PhaseInput.{asks_of}
-use Rattle.lab_phase.specs.PhaseSteps.{HaveGivenRows, length-given}
+use Rattle.lab_phase.specs.Prelude.{ap, arith, refl, subst, length, List, ◌++◌, Row, CardActor, IsSameCard-joined, AreOf-same, OnErr-always, asks_of}
+use Rattle.lab_phase.specs.Prelude.{HaveGivenRows, length-given}
 use Rattle.lab_phase.proofs.MeetLaws.{AreOf-lines, AreOfCard-ran, CardCanRun-met, ClientsCanRun-met, HaveMet-halves, ReadersCanRun-met}
 use Rattle.lab_phase.proofs.phase.run_together.Goals as goal
 

@@ -1,14 +1,7 @@
-use Rattle.std.proofs.Common.{◌≡◌, ◌∙◌, IfOk, ℕ, ap, subst, sym}
-use Rattle.std.specs.Option.{option_copied}
-use Rattle.sum_table.specs.declared.seats.player.PlayerSeat.{PlayerSeat}
+use Rattle.lab_phase.specs.Prelude.{ap, subst, sym, ◌∙◌, ◌≡◌, option_copied, IfOk, ℕ, PlayerSeat, player_key, player_ring, position_of_player, after_open}
+use Rattle.lab_phase.specs.Prelude.{Session, Stage, key_of_places, ring_of_places, frame_of_card, AreAfter, places_of, AreBeforeOpening}
 use Rattle.sum_table.specs.Joins.{OneRing}
-use Rattle.sum_table.specs.Players.{player_key, player_ring, position_of_player}
 use Rattle.lab_lines.specs.declared.line.Actor.TheVariants as whose
-use Rattle.lab_run.specs.Stage.{Session, Stage, after_open}
-use Rattle.lab_card.specs.Moves.{frame_of_card}
-use Rattle.lab_places.specs.Held.{key_of_places, ring_of_places}
-use Rattle.lab_clients.specs.AtStage.{AreAfter, places_of}
-use Rattle.lab_clients.specs.Opening.{AreBeforeOpening}
 use Rattle.lab_phase.proofs.seats.open_beside.Goals as goal
 
 pub open-opened-requires-clause-run : goal.open-opened-requires-clause-run

@@ -1,11 +1,6 @@
-use Rattle.std.proofs.Common.{refl}
-use Rattle.lab_actors.specs.Walks.{AreEach-map, AreEach-same}
-use Rattle.lab_clients.specs.AtStage.{clients_of}
-use Rattle.lab_clients.specs.Steps.{HasTakenRoom, IsSameWithRows}
-use Rattle.lab_readers.specs.AtStage.{readers_of}
-use Rattle.lab_readers.specs.Steps.{IsSameWithRows as IsSameReaderWithRows, IsSameWithRows-none}
-use Rattle.lab_phase.specs.BorderLaws.{OnErr-always}
-use Rattle.lab_phase.specs.PhaseSteps.{AreSameButRoom, AreSameButRoom-card}
+use Rattle.lab_phase.specs.Prelude.{refl, AreEach-map, AreEach-same, clients_of, HasTakenRoom, IsSameWithRows, readers_of, IsSameWithRows-none, OnErr-always}
+use Rattle.lab_phase.specs.Prelude.{AreSameButRoom, AreSameButRoom-card}
+use Rattle.lab_readers.specs.Steps.{IsSameWithRows as IsSameReaderWithRows}
 use Rattle.lab_phase.proofs.steps.take_room.Goals as goal
 
 pub returns-in_err-reserve-clause-kept : goal.returns-in_err-reserve-clause-kept

@@ -1,16 +1,7 @@
-use Rattle.std.specs.Prelude.{◌≡◌, ◌+◌, ◌++◌, Bool, if◌then◌else◌, List, [], length, vec_len, ℕ}
-use Rattle.std.specs.List.{flat_map}
-use Rattle.std.proofs.Common.{ap, arith, refl, ◌∙◌}
-use Rattle.std.proofs.lemmas.List.{length-append}
-use Rattle.lab_lines.specs.declared.row.Row.{Row}
-use Rattle.lab_card.specs.declared.card.CardActor.{CardActor}
+use Rattle.lab_phase.specs.Prelude.{ap, arith, if◌then◌else◌, refl, ◌+◌, ◌∙◌, ◌≡◌, length-append, flat_map, Bool, length, List, vec_len, ℕ, [], ◌++◌, Row}
+use Rattle.lab_phase.specs.Prelude.{CardActor, LabClients, clients_of, LabReaders, readers_of, rows_by}
 use Rattle.lab_clients.specs.OneClient as client
-use Rattle.lab_clients.specs.AtStage.{clients_of}
-use Rattle.lab_clients.specs.declared.clients.LabClients.{LabClients}
 use Rattle.lab_readers.specs.OneReader as reader
-use Rattle.lab_readers.specs.AtStage.{readers_of}
-use Rattle.lab_readers.specs.declared.readers.LabReaders.{LabReaders}
-use Rattle.lab_phase.specs.PhaseSteps.{rows_by}
 use Rattle.lab_phase.proofs.steps.take_rows.Goals as goal
 
 abbrev client_rows : LabClients → List Row

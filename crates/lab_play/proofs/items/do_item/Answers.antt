@@ -1,21 +1,11 @@
-use Rattle.std.specs.Prelude.{◌≡◌, List, Option}
-use Rattle.std.proofs.Common.{◌∙◌, ap, refl, subst, sym, ℕ}
-use Rattle.lab_lines.specs.declared.line.Item.{Item}
-use Rattle.lab_lines.specs.declared.line.Item.TheVariants as item
-use Rattle.lab_lines.specs.declared.line.Line.{Line}
-use Rattle.lab_run.specs.Stage.{Stage}
-use Rattle.lab_shelf.specs.Files.{Files}
-use Rattle.lab_phase.specs.AskLaws.{HaveAsked-none}
-use Rattle.lab_phase.specs.AtStage.{IsNextItem}
-use Rattle.lab_phase.specs.BorderLaws.{OnOk-more}
-use Rattle.lab_phase.specs.declared.lab.Lab.{Lab}
-use Rattle.lab_phase.specs.PhaseRuns.{HaveAsked, Stops, stops_by}
+use Rattle.lab_play.specs.Prelude.{ap, refl, subst, sym, ◌∙◌, List, Option, ℕ, ◌≡◌, Files, Item, Line, Stage, Lab, HaveAsked-none, IsNextItem, OnOk-more}
+use Rattle.lab_play.specs.Prelude.{HaveAsked, Stops, stops_by, StoresAndPuts-nothing, GoesOnWriting, IsStoppedAt, Scene, scene, StopsAt, StopsWritingPhase}
+use Rattle.lab_play.specs.Prelude.{WritesPhase}
 use Rattle.lab_phase.specs.Same.{StaysAtStage-same}
-use Rattle.lab_stop.specs.OutputLaws.{StoresAndPuts-nothing}
-use Rattle.lab_play.specs.Playing.{GoesOnWriting, IsStoppedAt, Scene, StopsAt, StopsWritingPhase, WritesPhase, scene}
 use Rattle.lab_play.proofs.ItemsDone.{GoesOn-written, HasLeftUnwritten-phase, StaysWritten-stage}
 use Rattle.lab_play.proofs.ItemsResults.{OnErr-all, OnErr-more, OnOk-all}
 use Rattle.lab_play.proofs.ItemsStopped.{IsStoppedAt-playing}
+use Rattle.lab_lines.specs.declared.line.Item.TheVariants as item
 use Rattle.lab_play.proofs.items.do_item.Goals as goal
 
 -- the next item is the phase whose lines these are

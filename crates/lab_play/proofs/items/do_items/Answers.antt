@@ -1,12 +1,7 @@
-use Rattle.std.specs.Prelude.{ℕ, ◌+◌, List, length, slice_get}
-use Rattle.std.proofs.Common.{refl, sym, ap, ◌∙◌}
+use Rattle.lab_play.specs.Prelude.{ap, refl, sym, ◌∙◌, length, List, slice_get, ℕ, ◌+◌, Item, HaveAsked-joined, HaveAsked-none, HaveSameAsks-none}
+use Rattle.lab_play.specs.Prelude.{IsNextItem-at, stops_by, BothCountNoFault-done, BothCountNoFault-same, BothCountNoFault-then, StoresAndPuts-after}
+use Rattle.lab_play.specs.Prelude.{StoresAndPuts-done, StoresAndPuts-passed, Scene, scene, StopsAt}
 use Rattle.std.proofs.lemmas.Option.{slice_get_read}
-use Rattle.lab_lines.specs.declared.line.Item.{Item}
-use Rattle.lab_phase.specs.AtStage.{IsNextItem-at}
-use Rattle.lab_phase.specs.AskLaws.{HaveAsked-joined, HaveAsked-none, HaveSameAsks-none}
-use Rattle.lab_phase.specs.PhaseRuns.{stops_by}
-use Rattle.lab_stop.specs.OutputLaws.{BothCountNoFault-done, BothCountNoFault-same, BothCountNoFault-then, StoresAndPuts-after, StoresAndPuts-done, StoresAndPuts-passed}
-use Rattle.lab_play.specs.Playing.{Scene, StopsAt, scene}
 use Rattle.lab_play.proofs.ItemsResults.{OnErr-all, stopped-with}
 use Rattle.lab_play.proofs.items.do_items.Goals as goal
 

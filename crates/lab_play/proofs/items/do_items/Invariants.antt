@@ -1,9 +1,5 @@
 -- The run has gone on since the call, and the items before the index are done.
-use Rattle.std.proofs.Common.{◌≡◌}
-use Rattle.lab_phase.specs.AtStage.{IsSameScript, items_done}
-use Rattle.lab_phase.specs.PhaseRuns.{HaveAsked, stops_by}
-use Rattle.lab_stop.specs.Effects.{BothCountNoFault}
-use Rattle.lab_play.specs.Playing.{GoesOnWriting, scene}
+use Rattle.lab_play.specs.Prelude.{◌≡◌, IsSameScript, items_done, HaveAsked, stops_by, BothCountNoFault, GoesOnWriting, scene}
 use Rattle.lab_play.proofs.items.do_items.Given as goal
 
 abbrev pub invariant-loop-index : goal.invariant-loop-index

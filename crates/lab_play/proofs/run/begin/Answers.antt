@@ -1,5 +1,4 @@
-use Rattle.lab_stop.specs.EffectLaws.{CountsNoFault-writes}
-use Rattle.lab_stop.specs.OutputLaws.{StoresAndPuts-passed, StoresAndPuts-puts, StoresAndPuts-writes}
+use Rattle.lab_play.specs.Prelude.{CountsNoFault-writes, StoresAndPuts-passed, StoresAndPuts-puts, StoresAndPuts-writes}
 use Rattle.lab_play.proofs.run.begin.Goals as goal
 
 pub returns-in_err-begin-clause-stores_and_puts : goal.returns-in_err-begin-clause-stores_and_puts

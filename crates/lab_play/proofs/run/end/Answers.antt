@@ -1,18 +1,9 @@
-use Rattle.std.specs.Prelude.{◌≡◌, ◌++◌, ℕ, List, Option, Err, length}
-use Rattle.std.specs.Option.{option_map}
-use Rattle.std.proofs.Common.{ap, subst, sym, ◌∙◌}
-use Rattle.lab_output.specs.Text.{tail_from}
-use Rattle.lab_phase.specs.AtStage.{items_done}
-use Rattle.lab_report.specs.Text.{IsReportOf}
-use Rattle.lab_lines.specs.declared.script.Script.{Script}
-use Rattle.lab_shelf.specs.Files.{TookPart}
-use Rattle.lab_stop.specs.EffectLaws.{CountsNoFault-writes}
-use Rattle.lab_stop.specs.OutputLaws.{BothCountNoFault-done, StoresAndPuts-done, StoresAndPuts-passed, StoresAndPuts-puts, StoresAndPuts-writes}
-use Rattle.lab_stop.specs.declared.stop.Stop.TheVariants as stop
-use Rattle.lab_play.specs.Ends.{StopsAtEnd}
-use Rattle.lab_play.specs.Playing.{Scene, scene, sounds_at}
+use Rattle.lab_play.specs.Prelude.{ap, subst, sym, ◌∙◌, option_map, Err, length, List, Option, ℕ, ◌++◌, ◌≡◌, TookPart, Script, IsReportOf, items_done}
+use Rattle.lab_play.specs.Prelude.{CountsNoFault-writes, BothCountNoFault-done, StoresAndPuts-done, StoresAndPuts-passed, StoresAndPuts-puts}
+use Rattle.lab_play.specs.Prelude.{StoresAndPuts-writes, tail_from, StopsAtEnd, Scene, scene, sounds_at}
 use Rattle.lab_play.proofs.Ending.{EndsAt-all, HasStopped-finish, HasStopped-tail, report-at_end, rows-few, same-script, stop-passed}
 use Rattle.lab_play.proofs.ItemsResults.{OnErr-all}
+use Rattle.lab_stop.specs.declared.stop.Stop.TheVariants as stop
 use Rattle.lab_play.proofs.run.end.Goals as goal
 
 pub returns-in_err-finish-clause-part : goal.returns-in_err-finish-clause-part

@@ -1,20 +1,7 @@
-use Rattle.std.specs.Prelude.{ℕ, Err, List, Option}
-use Rattle.std.specs.Option.{option_copied}
-use Rattle.std.proofs.lemmas.Result.{IfOk-weaker}
-use Rattle.std.proofs.Common.{inr, refl, subst}
-use Rattle.run_laws.specs.OneSample.{AreSamples}
-use Rattle.lab_input.specs.Input.{RunInput}
+use Rattle.lab_play.specs.Prelude.{inr, refl, subst, IfOk-weaker, option_copied, Err, List, Option, ℕ, Sound, Files, IsOfScript, outcome_in, Stops, stops_by}
+use Rattle.lab_play.specs.Prelude.{AreSamples, StoresAndPuts-nothing, StoresAndPuts-passed, RunInput, IsNewRun, HasPlayedAsking, HasPlayedPart, HasStopped}
+use Rattle.lab_play.specs.Prelude.{rises}
 use Rattle.lab_input.specs.Read.{input_of}
-use Rattle.lab_phase.specs.AtStage.{IsOfScript}
-use Rattle.lab_phase.specs.Ended.{outcome_in}
-use Rattle.lab_phase.specs.PhaseRuns.{Stops, stops_by}
-use Rattle.lab_shelf.specs.Files.{Files}
-use Rattle.wav_io.specs.Sound.{Sound}
-use Rattle.lab_stop.specs.OutputLaws.{StoresAndPuts-nothing, StoresAndPuts-passed}
-use Rattle.lab_play.specs.Ends.{IsNewRun}
-use Rattle.lab_play.specs.Played.{HasPlayedAsking, HasPlayedPart}
-use Rattle.lab_play.specs.Playing.{HasStopped}
-use Rattle.lab_play.specs.Stops.{rises}
 use Rattle.lab_play.proofs.Exactly.{HasStoppedRun-stopped}
 use Rattle.lab_play.proofs.ItemsResults.{OnErr-more}
 use Rattle.lab_play.proofs.run.play.Goals as goal

@@ -1,23 +1,11 @@
-use Rattle.std.specs.Prelude.{◌≡◌, ℕ, List, Option, Err}
-use Rattle.std.proofs.lemmas.Result.{IfOk-weaker}
-use Rattle.std.proofs.Common.{ap, refl, sym, ◌∙◌}
-use Rattle.lab_input.specs.Input.{RunInput}
-use Rattle.lab_phase.specs.AtStage.{session_of}
-use Rattle.lab_phase.specs.BorderLaws.{session_of-same}
-use Rattle.lab_phase.specs.Ended.{outcome_in}
-use Rattle.lab_phase.specs.PhaseRuns.{Stops, stops_by}
-use Rattle.lab_run.specs.Stage.{first_stage}
-use Rattle.lab_shelf.specs.Files.{Files}
-use Rattle.lab_stop.specs.OutputLaws.{BothCountNoFault-done, BothCountNoFault-then, StoresAndPuts-after, StoresAndPuts-passed}
-use Rattle.lab_stop.specs.declared.stop.Stop.TheVariants as stop
-use Rattle.lab_play.specs.Ends.{EndsWith, IsNewRun, StopsAtEnd}
-use Rattle.lab_play.specs.Played.{HasPlayedAsking}
-use Rattle.lab_play.specs.Playing.{HasStopped, Scene, Start, scene}
-use Rattle.lab_play.specs.Stops.{rises}
+use Rattle.lab_play.specs.Prelude.{ap, refl, sym, ◌∙◌, IfOk-weaker, Err, List, Option, ℕ, ◌≡◌, Files, first_stage, session_of, session_of-same, outcome_in}
+use Rattle.lab_play.specs.Prelude.{Stops, stops_by, BothCountNoFault-done, BothCountNoFault-then, StoresAndPuts-after, StoresAndPuts-passed, RunInput, EndsWith}
+use Rattle.lab_play.specs.Prelude.{IsNewRun, StopsAtEnd, HasPlayedAsking, HasStopped, Scene, scene, Start, rises}
 use Rattle.lab_play.proofs.Beginning.{HasStopped-first, IsPlaying-first, stage-first, start-of}
 use Rattle.lab_play.proofs.Ending.{HasPlayedAsking-end}
 use Rattle.lab_play.proofs.ItemsResults.{OnErr-all, OnErr-more}
 use Rattle.lab_play.proofs.ItemsStopped.{HasStopped-closed}
+use Rattle.lab_stop.specs.declared.stop.Stop.TheVariants as stop
 use Rattle.lab_play.proofs.run.play_all.Goals as goal
 
 pub returns-in_err-begin-clause-part : goal.returns-in_err-begin-clause-part

@@ -1,9 +1,5 @@
-use Rattle.std.proofs.Common.{arith, rules, subst, pos, get_or, w16, FitsSigned}
+use Rattle.lab_play.specs.Prelude.{arith, FitsSigned, get_or, pos, rules, subst, w16, take_all, All-more, All, IsSample}
 use Rattle.std.proofs.lemmas.Int.{to_z-of_z}
-use Rattle.std.proofs.lemmas.List.{take_all}
-use Rattle.std.proofs.lemmas.List.Elements.{All-more}
-use Rattle.std.specs.Prelude.{All}
-use Rattle.lap_word.specs.Clamp.{IsSample}
 use Rattle.lab_play.proofs.samples.read_samples.Goals as goal
 
 pub loop-sample-preserved : goal.loop-sample-preserved

@@ -1,10 +1,4 @@
-use Rattle.std.proofs.Common.{arith, subst, ap, ◌∙◌}
-use Rattle.std.proofs.lemmas.List.{take_all}
-use Rattle.std.proofs.lemmas.List.Elements.{All-more}
-use Rattle.std.specs.Prelude.{All}
-use Rattle.lap_word.specs.Clamp.{IsSample}
-use Rattle.wav_io.specs.Sound.{Sound}
-use Rattle.run_laws.specs.OneSample.{AreSamples}
+use Rattle.lab_play.specs.Prelude.{ap, arith, subst, ◌∙◌, take_all, All-more, All, IsSample, Sound, AreSamples}
 use Rattle.lab_play.proofs.samples.samples_are_of_16_bits.Goals as goal
 
 pub loop-wav-preserved : goal.loop-wav-preserved

@@ -1,5 +1,4 @@
-use Rattle.std.proofs.Common.{take}
-use Rattle.run_laws.specs.OneSample.{AreSamples}
+use Rattle.lab_play.specs.Prelude.{take, AreSamples}
 use Rattle.lab_play.proofs.samples.samples_are_of_16_bits.Given as goal
 
 abbrev pub invariant-loop-wav : goal.invariant-loop-wav

@@ -1,12 +1,8 @@
-use Rattle.std.proofs.Common.{◌≢◌, ◌≤◌, ◌<◌, List, length, arith, rules, sym, subst, ◌∙◌, ap, Err}
-use Rattle.std.specs.Prelude.{ℤ, slice_index_or}
-use Rattle.lab_shelf.specs.Changes.{Changes}
-use Rattle.lab_stop.specs.declared.stop.Stop.TheVariants as stops
-use Rattle.lab_stop.specs.EffectLaws.{CountsNoFault-then, CountsNoFault-writes, OnlyWrites-after, OnlyWrites-done, OnlyWrites-passed}
-use Rattle.lab_output.specs.Files.{MayHold}
-use Rattle.lab_output.specs.GoingLaws.{AreLonger-same, IsGoingOn-Changes}
-use Rattle.lab_play.specs.Playing.{sounds_at}
+use Rattle.lab_play.specs.Prelude.{ap, arith, rules, subst, sym, ◌<◌, ◌∙◌, ◌≢◌, ◌≤◌, Err, length, List, slice_index_or, ℤ, Changes, CountsNoFault-then}
+use Rattle.lab_play.specs.Prelude.{CountsNoFault-writes, OnlyWrites-after, OnlyWrites-done, OnlyWrites-passed, MayHold, AreLonger-same, IsGoingOn-Changes}
+use Rattle.lab_play.specs.Prelude.{sounds_at}
 use Rattle.lab_play.proofs.Writing.{all-going, appended-changes, appended-going, caught_up, caught_up-few, few-at, sounds-length}
+use Rattle.lab_stop.specs.declared.stop.Stop.TheVariants as stops
 use Rattle.lab_play.proofs.write.append_all.Goals as goal
 
 pub samples_of-requires-clause-number : goal.samples_of-requires-clause-number

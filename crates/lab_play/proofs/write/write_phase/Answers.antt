@@ -1,12 +1,6 @@
-use Rattle.std.proofs.Common.{◌≡◌, ◌++◌, List, ℕ, length, option_map, ◌∙◌}
-use Rattle.std.specs.Prelude.{Option}
-use Rattle.lab_lines.specs.declared.row.Row.{Row}
-use Rattle.lab_phase.specs.declared.lab.Lab.{Lab}
-use Rattle.lab_output.specs.Text.{rows_text}
-use Rattle.lab_shelf.specs.Files.{Files, TookPart}
-use Rattle.lab_stop.specs.EffectLaws.{CountsNoFault-writes}
-use Rattle.lab_stop.specs.OutputLaws.{StoresAndPuts-passed, StoresAndPuts-puts, StoresAndPuts-writes}
-use Rattle.lab_play.specs.Playing.{WritesPhase, StopsWritingPhase, scene}
+use Rattle.lab_play.specs.Prelude.{◌∙◌, length, List, Option, ℕ, ◌++◌, ◌≡◌, Files, TookPart, Row, Lab, CountsNoFault-writes, StoresAndPuts-passed}
+use Rattle.lab_play.specs.Prelude.{StoresAndPuts-puts, StoresAndPuts-writes, rows_text, scene, StopsWritingPhase, WritesPhase}
+use Rattle.std.proofs.Common.{option_map}
 use Rattle.lab_play.proofs.WritingPhase.{OnErr-always, OnErr-more, OnOk-both, can-append, can-put, catches-up, stops-appending, stops-putting}
 use Rattle.lab_play.proofs.write.write_phase.Goals as goal
 

@@ -1,9 +1,5 @@
-use Rattle.std.proofs.Common.{rules, arith, slice_index_or}
-use Rattle.lab_run.specs.GateAsks.{AsksGate}
-use Rattle.lab_actors.specs.Gates.{AsksGateAt-index}
+use Rattle.lab_readers.specs.Prelude.{arith, rules, slice_index_or, AsksGate, AsksGateAt-index, RunsLines, RunsAt}
 use Rattle.lab_actors.specs.Pairs.{AreEach-changed, ChangesPair-holds}
-use Rattle.lab_readers.specs.OpenReader.{RunsLines}
-use Rattle.lab_readers.specs.Steps.{RunsAt}
 use Rattle.lab_readers.proofs.at_once.run_at_once.Goals as goal
 
 pub returns : goal.returns

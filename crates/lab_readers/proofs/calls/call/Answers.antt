@@ -1,17 +1,9 @@
-use Rattle.std.proofs.Common.{ap, arith, refl, subst, sym, ◌∙◌}
-use Rattle.snd_base.specs.declared.errors.PcmError.TheVariants.{BadState, NotSupported}
-use Rattle.pcm_states.specs.declared.calls.Call.TheVariants as call
+use Rattle.lab_readers.specs.Prelude.{ap, arith, refl, subst, sym, ◌∙◌, BadState, NotSupported, CaptureStream, avail_course, if_admitted, starts, sync_course}
+use Rattle.lab_readers.specs.Prelude.{Op, Answer, count_answer, done_answer, call_of, both, HasReaderCalled}
 use Rattle.pcm_states.specs.declared.states.State.TheVariants.{Prepared, Setup}
-use Rattle.dsnoop_client.specs.declared.stream.CaptureStream.{CaptureStream}
-use Rattle.dsnoop_client.specs.Course.{if_admitted, avail_course, starts, sync_course}
-use Rattle.lab_lines.specs.declared.line.Op.{Op}
-use Rattle.lab_lines.specs.declared.line.Op.TheVariants as op
-use Rattle.lab_lines.specs.declared.row.Answer.{Answer}
-use Rattle.lab_run.specs.Client.{count_answer, done_answer}
-use Rattle.lab_run.specs.Reader.{call_of}
-use Rattle.lab_readers.specs.Lines.{HasReaderCalled}
-use Rattle.lab_actors.specs.GateLaws.{both}
 use Rattle.lab_readers.proofs.Called.{call-none, called-keeps, called-refused, called-state}
+use Rattle.pcm_states.specs.declared.calls.Call.TheVariants as call
+use Rattle.lab_lines.specs.declared.line.Op.TheVariants as op
 use Rattle.lab_readers.proofs.calls.call.Goals as goal
 
 pub returns-in-Start-clause-called : goal.returns-in-Start-clause-called

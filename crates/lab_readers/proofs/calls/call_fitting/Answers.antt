@@ -1,7 +1,4 @@
-use Rattle.std.proofs.Common.{subst, sym}
-use Rattle.lab_lines.specs.declared.line.Op.{Op}
-use Rattle.lab_actors.specs.Room.{HasSpace}
-use Rattle.lab_readers.specs.Room.{samples_wanted}
+use Rattle.lab_readers.specs.Prelude.{subst, sym, Op, HasSpace, samples_wanted}
 use Rattle.lab_readers.proofs.Rooms.{fitting-fits}
 use Rattle.lab_readers.proofs.calls.call_fitting.Goals as goal
 

@@ -1,9 +1,5 @@
-use Rattle.std.proofs.Common.{◌≡◌, ℕ, ◌+◌, ◌*◌, ◌≤◌, ◌++◌, ap, arith, drop, length, subst, sym, take, ◌∙◌}
-use Rattle.std.proofs.lemmas.List.{length-append, length-drop, length-replicate, length-take}
-use Rattle.std.specs.Prelude.{◌-◌, ℤ, List, min, pos, replicate}
-use Rattle.dsnoop_client.specs.FewerReads.{most_read}
-use Rattle.lab_actors.specs.Room.{HasSpace}
-use Rattle.lab_actors.specs.GateLaws.{both}
+use Rattle.lab_readers.specs.Prelude.{ap, arith, drop, length, List, subst, sym, take, ℕ, ◌*◌, ◌++◌, ◌+◌, ◌∙◌, ◌≡◌, ◌≤◌, length-append, length-drop}
+use Rattle.lab_readers.specs.Prelude.{length-replicate, length-take, min, pos, replicate, ℤ, ◌-◌, most_read, both, HasSpace}
 use Rattle.lab_readers.proofs.Called.{called-read, can-read, kept-behind, length-room}
 use Rattle.lab_readers.proofs.calls.read.Goals as goal
 

@@ -1,10 +1,5 @@
-use Rattle.std.proofs.Common.{arith, subst, sym}
-use Rattle.lab_actors.specs.Room.{HasSpace}
-use Rattle.lab_actors.specs.Rows.{lists-room}
-use Rattle.lab_readers.specs.declared.reader.LabReader.{LabReader}
-use Rattle.lab_readers.specs.End.{runs_by}
+use Rattle.lab_readers.specs.Prelude.{arith, length, subst, sym, HasSpace, lists-room, LabReader, runs_by}
 use Rattle.lab_readers.proofs.end.list_runs.Goals as goal
-use Rattle.std.specs.Prelude.{length}
 
 pub push_runs-requires : goal.push_runs-requires
 push_runs-requires c =

@@ -1,6 +1,4 @@
-use Rattle.std.proofs.Common.{◌≡◌, ◌≤◌, ◌++◌, take, vec_capacity}
-use Rattle.std.specs.List.{flat_map}
-use Rattle.lab_readers.specs.End.{runs_by}
+use Rattle.lab_readers.specs.Prelude.{take, vec_capacity, ◌++◌, ◌≡◌, ◌≤◌, flat_map, runs_by}
 use Rattle.lab_readers.proofs.end.list_runs.Given as goal
 
 abbrev pub invariant-loop-index : goal.invariant-loop-index

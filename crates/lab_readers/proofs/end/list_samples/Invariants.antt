@@ -1,6 +1,4 @@
-use Rattle.std.proofs.Common.{◌≡◌, ◌≤◌, ◌+◌, ◌++◌, length, map, vec_capacity, vec_len, ℤ}
-use Rattle.std.specs.Global.{Vec}
-use Rattle.lab_readers.specs.End.{read_samples}
+use Rattle.lab_readers.specs.Prelude.{length, map, vec_capacity, vec_len, ◌++◌, ◌+◌, ◌≡◌, ◌≤◌, Vec, ℤ, read_samples}
 use Rattle.lab_readers.proofs.end.list_samples.Given as goal
 
 abbrev pub invariant-loop-reader : goal.invariant-loop-reader

@@ -1,7 +1,4 @@
-use Rattle.std.proofs.Common.{◌≡◌, ◌+◌, ℕ, List, [], ◌∷◌, length, sym, ap, subst, arith, length-append}
-use Rattle.lab_readers.specs.declared.reader.LabReader.{LabReader}
-use Rattle.lab_readers.specs.OneOpening.{IsNeverOpen}
-use Rattle.lab_readers.specs.Opening.{AreNew, AreNew-append}
+use Rattle.lab_readers.specs.Prelude.{ap, arith, length, List, subst, sym, ℕ, [], ◌+◌, ◌∷◌, ◌≡◌, length-append, LabReader, IsNeverOpen, AreNew, AreNew-append}
 use Rattle.lab_readers.proofs.end.new_readers.Goals as goal
 
 pub loop-number-preserved : goal.loop-number-preserved

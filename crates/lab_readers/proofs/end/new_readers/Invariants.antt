@@ -1,5 +1,4 @@
-use Rattle.std.proofs.Common.{◌≡◌, length}
-use Rattle.lab_readers.specs.Opening.{AreNew}
+use Rattle.lab_readers.specs.Prelude.{length, ◌≡◌, AreNew}
 use Rattle.lab_readers.proofs.end.new_readers.Given as goal
 
 abbrev pub invariant-loop-number : goal.invariant-loop-number

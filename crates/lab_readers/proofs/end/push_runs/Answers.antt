@@ -1,6 +1,4 @@
-use Rattle.std.proofs.Common.{ℕ, List, ap, arith, length, map, take}
-use Rattle.std.proofs.lemmas.List.{length-append, length-map, length-take-le}
-use Rattle.lab_readers.specs.OneReader.{number_of}
+use Rattle.lab_readers.specs.Prelude.{ap, arith, length, List, map, take, ℕ, length-append, length-map, length-take-le, number_of}
 use Rattle.lab_readers.proofs.end.push_runs.Goals as goal
 
 pub unwrap-requires : goal.unwrap-requires

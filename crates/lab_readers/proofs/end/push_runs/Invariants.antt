@@ -1,5 +1,4 @@
-use Rattle.std.proofs.Common.{◌≡◌, ◌≤◌, ◌++◌, ℕ, map, take, vec_capacity}
-use Rattle.lab_readers.specs.OneReader.{number_of}
+use Rattle.lab_readers.specs.Prelude.{map, take, vec_capacity, ℕ, ◌++◌, ◌≡◌, ◌≤◌, number_of}
 use Rattle.lab_readers.proofs.end.push_runs.Given as goal
 
 abbrev pub invariant-loop-index : goal.invariant-loop-index

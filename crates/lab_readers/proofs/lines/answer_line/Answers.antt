@@ -1,12 +1,6 @@
-use Rattle.std.proofs.Common.{sym, subst, ◌∙◌}
-use Rattle.lab_lines.specs.declared.line.Op.{Op}
-use Rattle.lab_lines.specs.declared.row.Answer.TheVariants.{Done}
-use Rattle.lab_readers.specs.Lines.{HasReaderAnswered}
-use Rattle.lab_actors.specs.Countdown.{KeepsGate, at_gate_of, by_gate_of, left_of}
-use Rattle.lab_actors.specs.CountdownLaws.{CountsAsks-down, CountsAsks-keeps, KeepsGate-joined, KeepsGate-none, KeepsGate-passing}
-use Rattle.lab_readers.specs.Room.{spare_frames}
-use Rattle.lab_actors.specs.GateLaws.{TakesAtSnoop-gate, both}
-use Rattle.lab_actors.specs.LineLaws.{is_die-other}
+use Rattle.lab_readers.specs.Prelude.{subst, sym, ◌∙◌, Op, Done, at_gate_of, by_gate_of, KeepsGate, left_of, CountsAsks-down, CountsAsks-keeps}
+use Rattle.lab_readers.specs.Prelude.{KeepsGate-joined, KeepsGate-none, KeepsGate-passing, both, TakesAtSnoop-gate, is_die-other, HasReaderAnswered}
+use Rattle.lab_readers.specs.Prelude.{spare_frames}
 use Rattle.lab_readers.proofs.Answered.{answered-call, answered-die, answered-stopped}
 use Rattle.lab_readers.proofs.lines.answer_line.Goals as goal
 

@@ -1,5 +1,4 @@
-use Rattle.std.proofs.Common.{ap}
-use Rattle.std.specs.Option.{option_copied}
+use Rattle.lab_readers.specs.Prelude.{ap, option_copied}
 use Rattle.lab_readers.proofs.OpeningLaws.{no_seat, opening-done}
 use Rattle.lab_readers.proofs.opening.open_reader.Goals as goal
 

@@ -1,6 +1,4 @@
-use Rattle.std.proofs.Common.{sym, ◌∙◌}
-use Rattle.std.proofs.lemmas.Bool.{false≢true}
-use Rattle.lab_readers.specs.Kept.{HasGotAllOf-join, IsLaterSpare-join, IsLaterSpare-none}
+use Rattle.lab_readers.specs.Prelude.{sym, ◌∙◌, false≢true, HasGotAllOf-join, IsLaterSpare-join, IsLaterSpare-none}
 use Rattle.lab_readers.proofs.OpeningLaws.{OneRing-closed}
 use Rattle.lab_readers.proofs.reap.reap_reader.Goals as goal
 

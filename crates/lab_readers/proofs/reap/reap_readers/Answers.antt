@@ -1,8 +1,5 @@
-use Rattle.std.proofs.Common.{◌≡◌, ◌<◌, length, slice_index_or, arith, subst, sym}
-use Rattle.lab_actors.specs.Walks.{AreEach-walked, HasWalked-map, HasWalked-none, HasWalked-step}
-use Rattle.lab_readers.specs.AtStage.{IsOfRing}
-use Rattle.lab_readers.specs.Kept.{IsLaterSpare-joined, IsLaterSpare-none, IsOfRing-later, IsReaped-later}
-use Rattle.lab_readers.specs.Steps.{IsReaped}
+use Rattle.lab_readers.specs.Prelude.{arith, length, slice_index_or, subst, sym, ◌<◌, ◌≡◌, AreEach-walked, HasWalked-map, HasWalked-none, HasWalked-step}
+use Rattle.lab_readers.specs.Prelude.{IsOfRing, IsLaterSpare-joined, IsLaterSpare-none, IsOfRing-later, IsReaped-later, IsReaped}
 use Rattle.lab_readers.proofs.reap.reap_readers.Goals as goal
 
 pub reap_reader-requires : goal.reap_reader-requires

@@ -1,6 +1,4 @@
-use Rattle.lab_actors.specs.Walks.{HasWalked}
-use Rattle.lab_readers.specs.AtStage.{IsLaterSpare}
-use Rattle.lab_readers.specs.Steps.{IsReaped}
+use Rattle.lab_readers.specs.Prelude.{HasWalked, IsLaterSpare, IsReaped}
 use Rattle.lab_readers.proofs.reap.reap_readers.Given as goal
 
 abbrev pub invariant-loop-index : goal.invariant-loop-index

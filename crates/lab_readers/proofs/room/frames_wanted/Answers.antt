@@ -1,10 +1,7 @@
-use Rattle.std.proofs.Common.{◌<◌, arith, get_or, length, sym}
-use Rattle.std.proofs.lemmas.List.{get_or_default}
-use Rattle.lab_lines.specs.declared.line.Actor.TheVariants as actor
-use Rattle.lab_lines.specs.declared.line.Line.{Line}
-use Rattle.lab_lines.specs.declared.line.Op.TheVariants as op
-use Rattle.lab_actors.specs.Lines.{is_actor}
+use Rattle.lab_readers.specs.Prelude.{arith, get_or, length, sym, ◌<◌, get_or_default, Line, is_actor}
 use Rattle.lab_readers.proofs.AskedFrames.{asked-next}
+use Rattle.lab_lines.specs.declared.line.Actor.TheVariants as actor
+use Rattle.lab_lines.specs.declared.line.Op.TheVariants as op
 use Rattle.lab_readers.proofs.room.frames_wanted.Goals as goal
 
 pub loop-index-preserved : goal.loop-index-preserved

@@ -1,7 +1,4 @@
-use Rattle.std.proofs.Common.{◌≡◌, take}
-use Rattle.lab_run.specs.Phases.{ops_by}
-use Rattle.lab_readers.specs.Room.{frames_wanted}
-use Rattle.lab_actors.specs.Lines.{is_actor}
+use Rattle.lab_readers.specs.Prelude.{take, ◌≡◌, ops_by, is_actor, frames_wanted}
 use Rattle.lab_readers.proofs.room.frames_wanted.Given as goal
 
 abbrev pub invariant-loop-index : goal.invariant-loop-index

@@ -1,6 +1,4 @@
-use Rattle.std.proofs.Common.{◌≡◌, take}
-use Rattle.std.specs.Prelude.{sum_by}
-use Rattle.lab_run.specs.Phases.{played_at}
+use Rattle.lab_readers.specs.Prelude.{take, ◌≡◌, sum_by, played_at}
 use Rattle.lab_readers.proofs.room.phase_frames.Given as goal
 
 abbrev pub invariant-loop-index : goal.invariant-loop-index

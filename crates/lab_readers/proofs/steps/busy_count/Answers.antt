@@ -1,10 +1,7 @@
-use Rattle.std.proofs.Common.{◌≡◌, ◌∙◌, ◌<◌, length, slice_index_or, sym, ap, arith}
-use Rattle.std.proofs.lemmas.List.Sums.{count_by_more_no, count_by_more_yes}
-use Rattle.lab_readers.specs.OneReader.{ops_of}
-use Rattle.lab_readers.specs.Steps.{has_lines}
+use Rattle.lab_readers.specs.Prelude.{ap, arith, length, slice_index_or, sym, ◌<◌, ◌∙◌, ◌≡◌, count_by_more_no, count_by_more_yes, ops_of, has_lines}
 use Rattle.lab_readers.proofs.OpeningLaws.{is_some_op-test}
-use Rattle.lab_readers.proofs.steps.busy_count.Goals as goal
 use Rattle.lab_readers.proofs.steps.busy_count.Goals.{else-has_lines, then-has_lines}
+use Rattle.lab_readers.proofs.steps.busy_count.Goals as goal
 
 pub loop-index-preserved : goal.loop-index-preserved
 loop-index-preserved c =

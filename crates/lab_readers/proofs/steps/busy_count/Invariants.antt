@@ -1,5 +1,4 @@
-use Rattle.std.proofs.Common.{◌≡◌, count_by, take}
-use Rattle.lab_readers.specs.Steps.{has_lines}
+use Rattle.lab_readers.specs.Prelude.{count_by, take, ◌≡◌, has_lines}
 use Rattle.lab_readers.proofs.steps.busy_count.Given as goal
 
 abbrev pub invariant-loop-index : goal.invariant-loop-index

@@ -1,8 +1,4 @@
-use Rattle.std.proofs.Common.{◌∙◌, ap, subst, sym}
-use Rattle.dsnoop_client.specs.declared.stream.CaptureStream.{CaptureStream}
-use Rattle.dsnoop_client.specs.Calls.{configured_with}
-use Rattle.lab_run.specs.Stage.{Setup}
-use Rattle.lab_actors.specs.Usable.{IsUsable}
+use Rattle.lab_readers.specs.Prelude.{ap, subst, sym, ◌∙◌, CaptureStream, configured_with, Setup, IsUsable}
 use Rattle.lab_readers.proofs.Params.{params-taken}
 use Rattle.lab_readers.proofs.stream.set_up.Goals as goal
 

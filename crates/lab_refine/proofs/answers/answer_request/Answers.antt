@@ -1,7 +1,4 @@
-use Rattle.std.proofs.Common.{List, string_bytes, subst, ◌∙◌}
-use Rattle.std.proofs.lemmas.List.{take_all}
-use Rattle.lab_refine.specs.declared.request.Ask.{Ask}
-use Rattle.lab_refine.specs.Answers.{Answers}
+use Rattle.lab_refine.specs.Prelude.{List, string_bytes, subst, ◌∙◌, take_all, Ask, Answers}
 use Rattle.lab_refine.proofs.AnswerLaws.{Answers-next}
 use Rattle.lab_refine.proofs.answers.answer_request.Goals as goal
 

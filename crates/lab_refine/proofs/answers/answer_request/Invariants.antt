@@ -1,5 +1,4 @@
-use Rattle.std.proofs.Common.{string_bytes, take}
-use Rattle.lab_refine.specs.Answers.{Answers}
+use Rattle.lab_refine.specs.Prelude.{string_bytes, take, Answers}
 use Rattle.lab_refine.proofs.answers.answer_request.Given as goal
 
 abbrev pub invariant-loop-ask : goal.invariant-loop-ask

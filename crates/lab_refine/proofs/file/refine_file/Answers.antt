@@ -1,9 +1,6 @@
-use Rattle.std.proofs.Common.{Err, ap}
-use Rattle.std.proofs.lemmas.Result.{err_from_is_err_and}
-use Rattle.lab_stop.specs.Causes.{cause}
+use Rattle.lab_refine.specs.Prelude.{ap, Err, err_from_is_err_and, cause, IsSameShelf-reads, OnlyReads-done, OnlyReads-memory, OnlyReads-passed}
 use Rattle.lab_stop.specs.EndLaws.{EndsOf-read, EndsReliably-read}
 use Rattle.lab_stop.specs.FaultLaws.{FetchFaults-only}
-use Rattle.lab_stop.specs.ReadLaws.{IsSameShelf-reads, OnlyReads-done, OnlyReads-memory, OnlyReads-passed}
 use Rattle.lab_refine.proofs.AnswerLaws.{AreAnswers-unique}
 use Rattle.lab_refine.proofs.file.refine_file.Goals as goal
 

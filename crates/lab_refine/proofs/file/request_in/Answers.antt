@@ -1,6 +1,4 @@
-use Rattle.std.proofs.Common.{Err, Ok}
-use Rattle.std.proofs.lemmas.Result.{err_from_is_err_and}
-use Rattle.lab_stop.specs.ReadLaws.{AnswersFrom-passed, IsSameShelf-reads, IsSameShelf-same, OnlyReads-done, OnlyReads-passed}
+use Rattle.lab_refine.specs.Prelude.{Err, err_from_is_err_and, Ok, AnswersFrom-passed, IsSameShelf-reads, IsSameShelf-same, OnlyReads-done, OnlyReads-passed}
 use Rattle.lab_refine.proofs.Requests.{request_in-refused, request_in-read, request_in-text, Misses-refused, FetchFaults-refused}
 use Rattle.lab_refine.proofs.file.request_in.Goals as goal
 

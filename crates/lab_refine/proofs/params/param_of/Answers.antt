@@ -1,5 +1,4 @@
-use Rattle.std.proofs.Common.{◌≡◌, rules, tests, ◌∙◌, refl}
-use Rattle.std.specs.Prelude.{Option, Some, None, option_map}
+use Rattle.lab_refine.specs.Prelude.{refl, rules, tests, ◌∙◌, ◌≡◌, None, Option, option_map, Some}
 use Rattle.std.proofs.lemmas.Iterator.{YieldsList-from_slice}
 use Rattle.std.proofs.lemmas.Iterator.Consumers.{YieldsList-from_copied}
 use Rattle.std.proofs.lemmas.Iterator.Search.{find_from_yields_List}

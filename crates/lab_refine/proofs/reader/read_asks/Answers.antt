@@ -1,5 +1,4 @@
-use Rattle.std.proofs.Common.{◌∙◌, ap, sym, arith}
-use Rattle.lab_refine.specs.Reading.{on_line}
+use Rattle.lab_refine.specs.Prelude.{ap, arith, sym, ◌∙◌, on_line}
 use Rattle.lab_refine.proofs.AskLines.{Reads-refused, asks_of-more, asks_of-none, asks_of-refused, All-asks, All-read}
 use Rattle.lab_refine.proofs.reader.read_asks.Goals as goal
 

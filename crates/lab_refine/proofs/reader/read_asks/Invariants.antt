@@ -1,7 +1,4 @@
-use Rattle.std.proofs.Common.{◌≡◌, ◌+◌, ◌<◌, ◌^◌, All, length}
-use Rattle.lab_refine.specs.Grammar.{IsAsk}
-use Rattle.text_words.specs.Lexing.{lines_from}
-use Rattle.lab_refine.specs.Reading.{asks_of}
+use Rattle.lab_refine.specs.Prelude.{All, length, ◌+◌, ◌<◌, ◌^◌, ◌≡◌, lines_from, IsAsk, asks_of}
 use Rattle.lab_refine.proofs.AskLines.{joined}
 use Rattle.lab_refine.proofs.reader.read_asks.Given as goal
 

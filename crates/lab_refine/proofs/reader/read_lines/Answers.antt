@@ -1,6 +1,4 @@
-use Rattle.std.proofs.Common.{◌∙◌, ap}
-use Rattle.std.proofs.lemmas.Result.{err_from_is_err_and}
-use Rattle.lab_refine.specs.Reading.{on_line}
+use Rattle.lab_refine.specs.Prelude.{ap, ◌∙◌, err_from_is_err_and, on_line}
 use Rattle.lab_refine.proofs.AskLines.{Reads-refused, Refuses-passed, asked_in-all, asked_in-later, asked_in-none, asked_in-refused}
 use Rattle.lab_refine.proofs.reader.read_lines.Goals as goal
 

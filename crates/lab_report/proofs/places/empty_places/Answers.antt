@@ -1,5 +1,4 @@
-use Rattle.std.proofs.Common.{◌≡◌, ℕ, List, [], ◌∷◌, ◌++◌, ap, arith, refl, slice_index_or, subst, sym, ◌∙◌}
-use Rattle.lab_lines.specs.declared.request.Request.{Request}
+use Rattle.lab_report.specs.Prelude.{ap, arith, List, refl, slice_index_or, subst, sym, ℕ, [], ◌++◌, ◌∙◌, ◌∷◌, ◌≡◌, Request}
 use Rattle.lab_report.proofs.Sorting.{none-push}
 use Rattle.lab_report.proofs.places.empty_places.Goals as goal
 

@@ -1,7 +1,4 @@
-use Rattle.std.proofs.Common.{List, subst}
-use Rattle.std.proofs.lemmas.List.{take_all}
-use Rattle.lab_lines.specs.declared.line.Line.{Line}
-use Rattle.lab_report.specs.Requests.{AreSorted}
+use Rattle.lab_report.specs.Prelude.{List, subst, take_all, Line, AreSorted}
 use Rattle.lab_report.proofs.Sorting.{AreSorted-more}
 use Rattle.lab_report.proofs.places.sort_lines.Goals as goal
 

@@ -1,6 +1,5 @@
 -- The lines so far are sorted.
-use Rattle.std.proofs.Common.{take}
-use Rattle.lab_report.specs.Requests.{AreSorted}
+use Rattle.lab_report.specs.Prelude.{take, AreSorted}
 use Rattle.lab_report.proofs.places.sort_lines.Given as goal
 
 abbrev pub invariant-loop-line : goal.invariant-loop-line

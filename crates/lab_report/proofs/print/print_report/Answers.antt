@@ -1,6 +1,4 @@
-use Rattle.std.proofs.Common.{◌≡◌, ap, ◌∙◌, rules}
-use Rattle.lab_report.specs.Reading.{report_in_text}
-use Rattle.lab_report.specs.Text.{report_text}
+use Rattle.lab_report.specs.Prelude.{ap, rules, ◌∙◌, ◌≡◌, report_in_text, report_text}
 use Rattle.lab_report.proofs.Back.{report_in_text-text}
 use Rattle.lab_report.proofs.print.print_report.Goals as goal
 

@@ -1,7 +1,5 @@
 -- The lines so far follow the text.
-use Rattle.std.proofs.Common.{◌≡◌, ◌++◌, string_bytes, take}
-use Rattle.std.specs.List.{flat_map}
-use Rattle.lab_report.specs.Text.{row_line}
+use Rattle.lab_report.specs.Prelude.{string_bytes, take, ◌++◌, ◌≡◌, flat_map, row_line}
 use Rattle.lab_report.proofs.print.push_rows.Given as goal
 
 abbrev pub invariant-loop-row : goal.invariant-loop-row

@@ -1,7 +1,5 @@
 -- The lines so far follow the text.
-use Rattle.std.proofs.Common.{◌≡◌, ◌++◌, string_bytes, take}
-use Rattle.std.specs.List.{flat_map}
-use Rattle.lab_report.specs.Text.{run_line}
+use Rattle.lab_report.specs.Prelude.{string_bytes, take, ◌++◌, ◌≡◌, flat_map, run_line}
 use Rattle.lab_report.proofs.print.push_runs.Given as goal
 
 abbrev pub invariant-loop-reader : goal.invariant-loop-reader

@@ -1,7 +1,5 @@
 -- The lines so far follow the text.
-use Rattle.std.proofs.Common.{◌≡◌, ◌++◌, string_bytes, take}
-use Rattle.std.specs.List.{flat_map}
-use Rattle.lab_report.specs.Text.{segment_line}
+use Rattle.lab_report.specs.Prelude.{string_bytes, take, ◌++◌, ◌≡◌, flat_map, segment_line}
 use Rattle.lab_report.proofs.print.push_segments.Given as goal
 
 abbrev pub invariant-loop-client : goal.invariant-loop-client

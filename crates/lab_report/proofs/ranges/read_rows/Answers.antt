@@ -1,8 +1,4 @@
-use Rattle.std.proofs.Common.{arith, subst}
-use Rattle.std.proofs.lemmas.List.{take_all}
-use Rattle.std.proofs.lemmas.List.Elements.{All-more}
-use Rattle.std.specs.Prelude.{All}
-use Rattle.lab_report.specs.Ranges.{IsRowInRange}
+use Rattle.lab_report.specs.Prelude.{arith, subst, take_all, All-more, All, IsRowInRange}
 use Rattle.lab_report.proofs.ranges.read_rows.Goals as goal
 
 pub loop-row-preserved : goal.loop-row-preserved

@@ -1,6 +1,4 @@
-use Rattle.std.proofs.Common.{take}
-use Rattle.std.specs.Prelude.{All}
-use Rattle.lab_report.specs.Ranges.{IsRowInRange}
+use Rattle.lab_report.specs.Prelude.{take, All, IsRowInRange}
 use Rattle.lab_report.proofs.ranges.read_rows.Given as goal
 
 abbrev pub invariant-loop-row : goal.invariant-loop-row

@@ -1,6 +1,4 @@
-use Rattle.std.proofs.Common.{take}
-use Rattle.std.specs.Prelude.{All}
-use Rattle.lab_report.specs.Ranges.{IsRunInRange}
+use Rattle.lab_report.specs.Prelude.{take, All, IsRunInRange}
 use Rattle.lab_report.proofs.ranges.read_runs.Given as goal
 
 abbrev pub invariant-loop-run : goal.invariant-loop-run

@@ -1,9 +1,4 @@
-use Rattle.std.proofs.Common.{arith, subst, ℕ}
-use Rattle.std.proofs.lemmas.List.{take_all}
-use Rattle.std.proofs.lemmas.List.Elements.{All-more}
-use Rattle.std.specs.Prelude.{All}
-use Rattle.snd_base.specs.declared.places.Segment.{Segment}
-use Rattle.lab_report.specs.Ranges.{IsSegmentInRange}
+use Rattle.lab_report.specs.Prelude.{arith, subst, ℕ, take_all, All-more, All, Segment, IsSegmentInRange}
 use Rattle.lab_report.proofs.ranges.read_segments.Goals as goal
 
 pub loop-pair-preserved : goal.loop-pair-preserved

@@ -1,6 +1,4 @@
-use Rattle.std.proofs.Common.{◌≡◌, length}
-use Rattle.lab_report.specs.Reading.{view, nothing, lines_after}
-use Rattle.lab_report.specs.Words.{lines_of}
+use Rattle.lab_report.specs.Prelude.{length, ◌≡◌, lines_after, nothing, view, lines_of}
 use Rattle.lab_report.proofs.reader.read_lines.Given as goal
 
 abbrev pub invariant-loop-line : goal.invariant-loop-line

@@ -1,9 +1,6 @@
-use Rattle.std.proofs.Common.{List, length, subst, sym, ◌∙◌}
+use Rattle.lab_report.specs.Prelude.{length, List, subst, sym, ◌∙◌, Request, Answers, lines_after, nothing, lines_of}
 use Rattle.std.specs.List.{All}
-use Rattle.lab_lines.specs.declared.request.Request.{Request}
 use Rattle.lab_report.proofs.Actors.{IsAsked, requests_of-asked}
-use Rattle.lab_report.specs.Reading.{nothing, lines_after, Answers}
-use Rattle.lab_report.specs.Words.{lines_of}
 use Rattle.lab_report.proofs.SpelledText.{answers-of, answers-spelled}
 use Rattle.lab_report.proofs.reader.read_report.Goals as goal
 

@@ -1,6 +1,4 @@
-use Rattle.std.proofs.Common.{◌<◌, ◌++◌, [], List, length, sym, ap, ◌∙◌, arith, slice_index_or}
-use Rattle.std.proofs.lemmas.List.{append-nil, get_or_default}
-use Rattle.lab_lines.specs.declared.request.Request.{Request}
+use Rattle.lab_report.specs.Prelude.{ap, arith, length, List, slice_index_or, sym, [], ◌++◌, ◌<◌, ◌∙◌, append-nil, get_or_default, Request}
 use Rattle.lab_report.proofs.Actors.{before_place-zero, requests-more}
 use Rattle.lab_report.proofs.request.push_phase.Goals as goal
 

@@ -1,5 +1,4 @@
-use Rattle.std.proofs.Common.{◌≡◌, ◌++◌, map}
-use Rattle.lab_report.specs.Requests.{request_of, before_place}
+use Rattle.lab_report.specs.Prelude.{map, ◌++◌, ◌≡◌, before_place, request_of}
 use Rattle.lab_report.proofs.request.push_phase.Given as goal
 
 abbrev pub invariant-loop-place : goal.invariant-loop-place

@@ -1,6 +1,4 @@
-use Rattle.std.proofs.Common.{◌≡◌, ◌+◌, ◌++◌, drop, length}
-use Rattle.lab_lines.specs.Script.{phases_of}
-use Rattle.lab_report.specs.Requests.{requests_from}
+use Rattle.lab_report.specs.Prelude.{drop, length, ◌++◌, ◌+◌, ◌≡◌, phases_of, requests_from}
 use Rattle.lab_report.proofs.request.requests_of.Given as goal
 
 abbrev pub invariant-loop-item : goal.invariant-loop-item

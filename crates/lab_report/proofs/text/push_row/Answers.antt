@@ -1,8 +1,6 @@
 -- The parts that were appended are those of the row's line.
-use Rattle.std.proofs.Common.{◌≡◌, ◌++◌, ◌∷◌, [], string_bytes}
+use Rattle.lab_report.specs.Prelude.{string_bytes, [], ◌++◌, ◌∷◌, ◌≡◌, state_name, number_or_dash, row_line}
 use Rattle.std.proofs.lemmas.Result.{on_ok_weaker}
-use Rattle.pcm_states.specs.States.{state_name}
-use Rattle.lab_report.specs.Text.{number_or_dash, row_line}
 use Rattle.lab_report.proofs.RowLine.{row_line-appended}
 use Rattle.lab_report.proofs.text.push_row.Goals as goal
 

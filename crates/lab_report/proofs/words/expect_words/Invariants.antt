@@ -1,7 +1,4 @@
-use Rattle.std.proofs.Common.{◌≡◌, length}
-use Rattle.std.specs.List.{slice_split}
-use Rattle.lab_report.specs.Words.{expect_words}
-use Rattle.text_words.specs.Word.{is_space}
+use Rattle.lab_report.specs.Prelude.{length, ◌≡◌, slice_split, is_space, expect_words}
 use Rattle.lab_report.proofs.words.expect_words.Given as goal
 
 abbrev pub invariant-loop-word : goal.invariant-loop-word

@@ -1,6 +1,4 @@
-use Rattle.std.proofs.Common.{sym}
-use Rattle.text_words.specs.Word.{is_space}
-use Rattle.text_words.proofs.Cuts.{split_at, split_none}
+use Rattle.lab_report.specs.Prelude.{sym, is_space, split_at, split_none}
 use Rattle.lab_report.proofs.words.split_word.Goals as goal
 
 pub returns-in_err-end-clause-none : goal.returns-in_err-end-clause-none

@@ -1,7 +1,6 @@
 use Rattle.lab_run.proofs.laws.parts_are_runs.Goals as goal
+use Rattle.lab_run.specs.Prelude.{client_kind, reader_kind}
 use Rattle.lab_run.proofs.PartLaws.{parts-are_runs}
-use Rattle.lab_run.specs.Client.{client_kind}
-use Rattle.lab_run.specs.Reader.{reader_kind}
 
 pub returns : goal.returns
 returns c = record {

@@ -1,6 +1,5 @@
-use Rattle.std.proofs.Common.{map, ◌∙◌}
+use Rattle.lab_script.specs.Prelude.{map, ◌∙◌, words_between}
 use Rattle.std.proofs.lemmas.Result.{err_from_is_err_and}
-use Rattle.text_words.specs.Lexing.{words_between}
 use Rattle.lab_script.proofs.Pairs.{keys_wrong, keys_next, map_more}
 use Rattle.lab_script.proofs.keys.check_keys.Goals as goal
 

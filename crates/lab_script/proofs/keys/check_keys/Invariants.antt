@@ -1,6 +1,4 @@
-use Rattle.std.proofs.Common.{◌≡◌, length, map, []}
-use Rattle.lab_script.specs.Keys.{keys_from}
-use Rattle.text_words.specs.Lexing.{words_between}
+use Rattle.lab_script.specs.Prelude.{length, map, [], ◌≡◌, words_between, keys_from}
 use Rattle.lab_script.proofs.keys.check_keys.Given as goal
 
 abbrev pub invariant-loop-key : goal.invariant-loop-key

@@ -1,6 +1,4 @@
-use Rattle.std.proofs.Common.{◌≡◌, length}
-use Rattle.lab_script.specs.Keys.{word_after}
-use Rattle.text_words.specs.Lexing.{words_between}
+use Rattle.lab_script.specs.Prelude.{length, ◌≡◌, words_between, word_after}
 use Rattle.lab_script.proofs.keys.given.Given as goal
 
 abbrev pub invariant-loop-k : goal.invariant-loop-k

@@ -1,7 +1,4 @@
-use Rattle.std.proofs.Common.{◌≡◌, ◌+◌, ◌^◌, ◌<◌, length}
-use Rattle.lab_script.specs.Draft.{view, card_alone}
-use Rattle.text_words.specs.Lexing.{lines_from}
-use Rattle.lab_script.specs.Reading.{after}
+use Rattle.lab_script.specs.Prelude.{length, ◌+◌, ◌<◌, ◌^◌, ◌≡◌, lines_from, card_alone, view, after}
 use Rattle.lab_script.proofs.reader.read_lines.Given as goal
 
 abbrev pub invariant-loop-line : goal.invariant-loop-line

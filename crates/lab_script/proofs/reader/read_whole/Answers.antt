@@ -1,5 +1,4 @@
-use Rattle.std.proofs.Common.{◌+◌}
-use Rattle.text_words.specs.Lexing.{lines_from, words_between}
+use Rattle.lab_script.specs.Prelude.{◌+◌, lines_from, words_between}
 use Rattle.lab_script.proofs.Pairs.{first_refused}
 use Rattle.lab_script.proofs.reader.read_whole.Goals as goal
 

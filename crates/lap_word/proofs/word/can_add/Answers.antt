@@ -1,6 +1,5 @@
 use Rattle.std.proofs.Common.{arith}
 use Rattle.std.proofs.lemmas.Int.{ints}
-use Rattle.lap_word.specs.Word.{CanAdd, IsSum}
 use Rattle.lap_word.proofs.word.can_add.Goals as goal
 
 pub returns-then-count-lt255 : goal.returns-then-count-lt255

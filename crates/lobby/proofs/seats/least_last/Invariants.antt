@@ -1,5 +1,4 @@
-use Rattle.std.proofs.Common.{◌+◌, ◌<◌, ◌^◌, IfSome, take}
-use Rattle.lobby.specs.Seats.{last_frames}
+use Rattle.lobby.specs.Prelude.{IfSome, take, ◌+◌, ◌<◌, ◌^◌, last_frames}
 use Rattle.lobby.proofs.Leasts.{IsLeastOf}
 use Rattle.lobby.proofs.seats.least_last.Given as goal
 

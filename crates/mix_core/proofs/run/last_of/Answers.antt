@@ -1,8 +1,6 @@
-use Rattle.std.proofs.Common.{◌≡◌, pos, ◌+◌, ◌-◌, ◌<◌, [], drop, length, get_or, subst, sym, ap, ◌∙◌, arith}
+use Rattle.mix_core.specs.Prelude.{ap, arith, drop, get_or, length, pos, subst, sym, [], ◌+◌, ◌-◌, ◌<◌, ◌∙◌, ◌≡◌, drop_more, get_or_default, Entry, an_add}
+use Rattle.mix_core.specs.Prelude.{own_entries}
 use Rattle.std.proofs.Math.Seq.{drop-length}
-use Rattle.std.proofs.lemmas.List.{drop_more, get_or_default}
-use Rattle.mix_core.specs.Laid.{an_add, own_entries}
-use Rattle.mix_core.specs.declared.port.Entry.{Entry}
 use Rattle.mix_core.proofs.Standing.{own-cons_other}
 use Rattle.mix_core.proofs.run.last_of.Goals as goal
 

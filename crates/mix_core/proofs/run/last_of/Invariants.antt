@@ -1,5 +1,4 @@
-use Rattle.std.proofs.Common.{◌≡◌, ◌≤◌, [], drop, length}
-use Rattle.mix_core.specs.Laid.{own_entries}
+use Rattle.mix_core.specs.Prelude.{drop, length, [], ◌≡◌, ◌≤◌, own_entries}
 use Rattle.mix_core.proofs.run.last_of.Given as goal
 
 abbrev pub invariant-loop-i : goal.invariant-loop-i

@@ -1,10 +1,5 @@
 -- The interval between the two fractions is the one of the definition, and members of it come of members.
-use Rattle.std.specs.Prelude.{◌*◌}
-use Rattle.std.proofs.Common.{rules, sym, subst}
-use Rattle.pcm_interval.specs.declared.interval.Interval.{Interval}
-use Rattle.pcm_interval.specs.Arithmetic.{quotient_of}
-use Rattle.pcm_interval.specs.ArithmeticLaws.{quotient_of-IsMember}
-use Rattle.pcm_interval.specs.Intervals.{IsMember}
+use Rattle.pcm_interval.specs.Prelude.{rules, subst, sym, ◌*◌, Interval, quotient_of, quotient_of-IsMember, IsMember}
 use Rattle.pcm_interval.proofs.arithmetic.div.Goals as goal
 
 pub returns-clause-quotient : goal.returns-clause-quotient

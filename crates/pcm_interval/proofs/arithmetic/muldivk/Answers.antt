@@ -1,10 +1,5 @@
 -- The interval between the two fractions is the one of the definition, and members of it come of members.
-use Rattle.std.specs.Prelude.{◌*◌}
-use Rattle.std.proofs.Common.{rules, sym, subst}
-use Rattle.pcm_interval.specs.declared.interval.Interval.{Interval}
-use Rattle.pcm_interval.specs.Arithmetic.{scaled_product_of}
-use Rattle.pcm_interval.specs.ArithmeticLaws.{scaled_product_of-IsMember}
-use Rattle.pcm_interval.specs.Intervals.{IsMember}
+use Rattle.pcm_interval.specs.Prelude.{rules, subst, sym, ◌*◌, Interval, scaled_product_of, scaled_product_of-IsMember, IsMember}
 use Rattle.pcm_interval.proofs.arithmetic.muldivk.Goals as goal
 
 pub returns-clause-scaled : goal.returns-clause-scaled

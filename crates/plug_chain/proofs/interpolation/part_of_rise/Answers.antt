@@ -1,10 +1,5 @@
-use Rattle.std.proofs.Common.{◌≡◌, ◌≤◌, ℕ, ◌*◌, ◌/◌, ◌+◌, ap, arith, refl, rules, ◌∙◌, pos}
-use Rattle.std.proofs.Math.Nat.{div-le_self}
-use Rattle.std.proofs.lemmas.Int.{ints, to_z-of_z}
-use Rattle.std.specs.Prelude.{◌-ℤ◌, ◌<ℤ◌, ◌≤ℤ◌}
-use Rattle.std.specs.Int.{div_ceil, w64}
-use Rattle.std.specs.Int.RustNames.{unsigned_abs}
-use mir.Val.{to_z, of_z}
+use Rattle.plug_chain.specs.Prelude.{ap, arith, pos, refl, rules, ℕ, ◌*◌, ◌+◌, ◌/◌, ◌∙◌, ◌≡◌, ◌≤◌, div-le_self, ints, to_z-of_z, div_ceil, w64, unsigned_abs}
+use Rattle.plug_chain.specs.Prelude.{◌-ℤ◌, ◌<ℤ◌, ◌≤ℤ◌, of_z, to_z}
 use Rattle.plug_chain.proofs.Lines.{div_ceil-le, div_euclid-fall, div_euclid-rise, size-most}
 use Rattle.plug_chain.proofs.interpolation.part_of_rise.Goals as goal
 

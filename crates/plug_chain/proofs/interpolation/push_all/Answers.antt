@@ -1,7 +1,4 @@
-use Rattle.std.proofs.Common.{rules, ◌≡◌, ◌+◌, ◌++◌, [], ◌∷◌, FitsSigned, ap, arith, get_or, length, pos, refl, take, ◌∙◌}
-use Rattle.std.proofs.Math.Seq.{take-length}
-use Rattle.std.proofs.lemmas.Int.{to_z-of_z}
-use Rattle.std.specs.Int.{w16}
+use Rattle.plug_chain.specs.Prelude.{ap, arith, FitsSigned, get_or, length, pos, refl, rules, take, [], ◌++◌, ◌+◌, ◌∙◌, ◌∷◌, ◌≡◌, take-length, to_z-of_z, w16}
 use Rattle.plug_chain.proofs.Courses.{taken-next}
 use Rattle.plug_chain.proofs.interpolation.push_all.Goals as goal
 

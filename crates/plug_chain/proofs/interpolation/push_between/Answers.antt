@@ -1,7 +1,4 @@
-use Rattle.std.proofs.Common.{◌≡◌, ◌+◌, arith, rules, [], ◌∷◌, ◌++◌, pos, get_or, ap, ◌∙◌, FitsSigned, drop}
-use Rattle.std.proofs.lemmas.Int.{to_z-of_z}
-use Rattle.std.specs.Int.{w16}
-use Rattle.plug_chain.specs.Rates.{frame_between, on_line}
+use Rattle.plug_chain.specs.Prelude.{ap, arith, drop, FitsSigned, get_or, pos, rules, [], ◌++◌, ◌+◌, ◌∙◌, ◌∷◌, ◌≡◌, to_z-of_z, w16, frame_between, on_line}
 use Rattle.plug_chain.proofs.Courses.{Extends-more}
 use Rattle.plug_chain.proofs.Lines.{between-step}
 use Rattle.plug_chain.proofs.interpolation.push_between.Goals as goal

@@ -1,6 +1,4 @@
-use Rattle.std.proofs.Common.{◌≡◌, drop, ◌++◌}
-use Rattle.plug_chain.specs.Growth.{Extends}
-use Rattle.plug_chain.specs.Rates.{frame_between}
+use Rattle.plug_chain.specs.Prelude.{drop, ◌++◌, ◌≡◌, Extends, frame_between}
 use Rattle.plug_chain.proofs.interpolation.push_between.Given as goal
 
 abbrev pub invariant-loop-channel : goal.invariant-loop-channel

@@ -1,8 +1,4 @@
-use Rattle.std.proofs.Common.{◌≡◌, arith, ap, sym, subst, ◌∙◌, pos, FitsSigned}
-use Rattle.std.proofs.lemmas.Int.{ints, to_z-of_z}
-use Rattle.std.specs.Prelude.{◌+ℤ◌, ◌-ℤ◌, ◌*ℤ◌}
-use Rattle.std.specs.Int.{int_div_euclid, w16, w64}
-use mir.Val.{to_z, of_z}
+use Rattle.plug_chain.specs.Prelude.{ap, arith, FitsSigned, pos, subst, sym, ◌∙◌, ◌≡◌, ints, to_z-of_z, int_div_euclid, w16, w64, ◌*ℤ◌, ◌+ℤ◌, ◌-ℤ◌, of_z, to_z}
 use Rattle.plug_chain.proofs.Lines.{FitsSigned-part, IsPartOf, IsPartOf-div_euclid}
 use Rattle.plug_chain.proofs.interpolation.sample_between.Goals as goal
 

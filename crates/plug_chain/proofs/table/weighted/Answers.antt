@@ -1,10 +1,5 @@
-use Rattle.std.proofs.Common.{◌≡◌, sym, subst, ◌∙◌, ap, ℤ, FitsSigned}
-use Rattle.std.specs.Prelude.{◌*ℤ◌}
-use Rattle.std.specs.Int.{w64, w16, w32}
-use mir.Val.{to_z, of_z}
-use Rattle.plug_chain.specs.Tables.{IsSumOf}
+use Rattle.plug_chain.specs.Prelude.{ap, FitsSigned, subst, sym, ℤ, ◌∙◌, ◌≡◌, to_z-of_z, w16, w32, w64, ◌*ℤ◌, of_z, to_z, IsSumOf}
 use Rattle.plug_chain.proofs.Sums.{IsSumOf-product, FitsSigned-product, product-is}
-use Rattle.std.proofs.lemmas.Int.{to_z-of_z}
 use Rattle.plug_chain.proofs.table.weighted.Goals as goal
 
 -- the product, without its casts

@@ -1,9 +1,5 @@
-use Rattle.std.proofs.Common.{◌≡◌, ℤ, pos, arith, rules, get_or, sym, subst, ◌+◌, drop, FitsSigned}
-use Rattle.std.proofs.lemmas.Int.{ints, to_z-of_z}
-use Rattle.std.specs.Prelude.{◌+ℤ◌, ◌*ℤ◌}
-use Rattle.std.specs.Int.{w16, w32, w64}
-use mir.Val.{to_z, of_z}
-use Rattle.plug_chain.specs.Tables.{IsSumOf, weighted_sum}
+use Rattle.plug_chain.specs.Prelude.{arith, drop, FitsSigned, get_or, pos, rules, subst, sym, ℤ, ◌+◌, ◌≡◌, ints, to_z-of_z, w16, w32, w64, ◌*ℤ◌, ◌+ℤ◌, of_z}
+use Rattle.plug_chain.specs.Prelude.{to_z, IsSumOf, weighted_sum}
 use Rattle.plug_chain.proofs.Sums.{IsSumOf-more, weighted_sum-step}
 use Rattle.plug_chain.proofs.table.weighted_sum.Goals as goal
 

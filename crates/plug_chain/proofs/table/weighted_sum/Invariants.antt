@@ -1,6 +1,4 @@
-use Rattle.std.proofs.Common.{◌≡◌, drop}
-use Rattle.std.specs.Prelude.{◌+ℤ◌}
-use Rattle.plug_chain.specs.Tables.{IsSumOf, weighted_sum}
+use Rattle.plug_chain.specs.Prelude.{drop, ◌≡◌, ◌+ℤ◌, IsSumOf, weighted_sum}
 use Rattle.plug_chain.proofs.table.weighted_sum.Given as goal
 
 abbrev pub invariant-loop-input : goal.invariant-loop-input

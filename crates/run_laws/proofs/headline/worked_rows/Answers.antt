@@ -1,5 +1,4 @@
-use Rattle.std.proofs.Common.{refl}
-use Rattle.bindings.specs.Bound.{rising}
+use Rattle.run_laws.specs.Prelude.{refl, rising}
 use Rattle.run_laws.proofs.headline.worked_rows.Goals as goal
 
 pub returns-clause-first : goal.returns-clause-first

@@ -1,5 +1,4 @@
-use Rattle.std.proofs.Common.{◌≡◌, ◌∙◌, [], inl, arith, ap}
-use Rattle.sum_table.specs.declared.view.View.{View}
+use Rattle.sum_table.specs.Prelude.{ap, arith, inl, [], ◌∙◌, ◌≡◌, View}
 use Rattle.sum_table.proofs.Cuts.{splits}
 use Rattle.sum_table.proofs.seats.deal.Goals as goal
 

@@ -1,5 +1,4 @@
-use Rattle.std.proofs.Common.{◌≡◌, ◌+◌, ◌≤◌, length}
-use Rattle.text_words.specs.Lexing.{lines_from}
+use Rattle.text_words.specs.Prelude.{length, ◌+◌, ◌≡◌, ◌≤◌, lines_from}
 use Rattle.text_words.proofs.lexing.next_line.Given as goal
 
 abbrev pub invariant-loop-rest : goal.invariant-loop-rest

@@ -1,5 +1,4 @@
-use Rattle.std.proofs.Common.{sym, ap, ◌∙◌}
-use Rattle.text_words.specs.Lexing.{first_and_rest}
+use Rattle.text_words.specs.Prelude.{ap, sym, ◌∙◌, first_and_rest}
 use Rattle.text_words.proofs.LineWords.{words_between-at, words_between-one}
 use Rattle.text_words.proofs.lexing.next_word.Goals as goal
 

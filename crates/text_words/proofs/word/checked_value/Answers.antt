@@ -1,6 +1,4 @@
-use Rattle.std.proofs.Common.{◌≡◌, ◌+◌, ◌-◌, ◌*◌, ◌≤◌, get_or, ap, ◌∙◌, arith}
-use Rattle.std.specs.Str.Parse.{digits_value}
-use Rattle.std.proofs.lemmas.List.{take_all}
+use Rattle.text_words.specs.Prelude.{ap, arith, get_or, ◌*◌, ◌+◌, ◌-◌, ◌∙◌, ◌≡◌, ◌≤◌, take_all, digits_value}
 use Rattle.text_words.proofs.Digits.{digit_more}
 use Rattle.text_words.proofs.Within.{within-none, within-some, within-most, within-fits}
 use Rattle.text_words.proofs.word.checked_value.Goals as goal

@@ -1,5 +1,4 @@
-use Rattle.std.proofs.Common.{◌≡◌, take}
-use Rattle.std.specs.Str.Parse.{digits_value}
+use Rattle.text_words.specs.Prelude.{take, ◌≡◌, digits_value}
 use Rattle.text_words.proofs.word.digits_value.Given as goal
 
 abbrev pub invariant-loop-b : goal.invariant-loop-b

@@ -1,6 +1,4 @@
-use Rattle.std.proofs.Common.{◌≡◌, None, sym}
-use Rattle.std.specs.List.{position}
-use Rattle.text_words.specs.Word.{is_comma}
+use Rattle.text_words.specs.Prelude.{None, sym, ◌≡◌, position, is_comma}
 use Rattle.text_words.proofs.Cuts.{split_at, split_none}
 use Rattle.text_words.proofs.word.split_part.Goals as goal
 

@@ -1,8 +1,5 @@
-use Rattle.std.proofs.Common.{◌≡◌, ℕ, List, ◌*◌, ◌+◌, ◌<◌, [], ◌∷◌, ◌++◌, get_or, length, drop, take, arith, rules, ◌∙◌, ap, sym, to_z, of_z, FitsSigned, length-set}
-use Rattle.std.specs.Int.{w16, cast_signed, from_le_bytes}
-use Rattle.std.proofs.lemmas.Int.{to_z-of_z}
-use Rattle.std.proofs.lemmas.List.{take_more_set, take_all}
-use Rattle.wav_io.specs.Fields.{samples_of_bytes}
+use Rattle.wav_io.specs.Prelude.{ap, arith, drop, get_or, length, length-set, List, of_z, rules, sym, take, to_z, ℕ, [], ◌*◌, ◌++◌, ◌+◌, ◌<◌, ◌∙◌, ◌∷◌, ◌≡◌}
+use Rattle.wav_io.specs.Prelude.{to_z-of_z, take_all, take_more_set, cast_signed, from_le_bytes, w16, FitsSigned, samples_of_bytes}
 use Rattle.wav_io.proofs.Bodies.{drop-two, goes_on, ends}
 use Rattle.wav_io.proofs.fields.decode.Goals as goal
 

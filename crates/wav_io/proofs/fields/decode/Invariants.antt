@@ -1,5 +1,4 @@
-use Rattle.std.proofs.Common.{◌≡◌, ◌*◌, ◌++◌, drop, take, length}
-use Rattle.wav_io.specs.Fields.{samples_of_bytes}
+use Rattle.wav_io.specs.Prelude.{drop, length, take, ◌*◌, ◌++◌, ◌≡◌, samples_of_bytes}
 use Rattle.wav_io.proofs.fields.decode.Given as goal
 
 abbrev pub invariant-loop-i : goal.invariant-loop-i

@@ -1,7 +1,4 @@
-use Rattle.std.proofs.Common.{◌++◌, ◌∙◌, ap, List, ℕ}
-use Rattle.std.specs.List.{flat_map}
-use Rattle.wav_io.specs.Canonical.{sample_bytes}
-use Rattle.wav_io.specs.Reading.{wav_file}
+use Rattle.wav_io.specs.Prelude.{ap, List, ℕ, ◌++◌, ◌∙◌, flat_map, sample_bytes, wav_file}
 use Rattle.wav_io.proofs.Files.{wav_file-open}
 use Rattle.wav_io.proofs.head.open_header.Goals as goal
 

@@ -1,12 +1,5 @@
-use Rattle.std.proofs.Common.{◌≡◌, true, false, sym, ap, subst, ◌∙◌, take, ◌+◌, ◌%◌, ◌++◌}
-use Rattle.std.specs.Prelude.{codes, IfSome, Some}
-use Rattle.std.specs.Str.{bytes_eq}
-use Rattle.wav_io.specs.declared.place.Place.TheVariants.{DataBody, Refused, Head}
-use Rattle.wav_io.specs.declared.error.WavError.TheVariants.{NoFormat}
-use Rattle.wav_io.specs.Formats.{IsFormat}
-use Rattle.wav_io.specs.Chunks.{chunks}
-use Rattle.wav_io.specs.Pieces.{LeadsTo}
-use Rattle.wav_io.specs.Reading.{scan_of}
+use Rattle.wav_io.specs.Prelude.{ap, false, Some, subst, sym, take, true, ◌%◌, ◌++◌, ◌+◌, ◌∙◌, ◌≡◌, codes, IfSome, bytes_eq, NoFormat, DataBody, Head, Refused}
+use Rattle.wav_io.specs.Prelude.{chunks, IsFormat, LeadsTo, scan_of}
 use Rattle.wav_io.proofs.Places.{leads_by_format, leads_by_data, leads_by_no_format, leads_by_other, leads_at_size}
 use Rattle.wav_io.proofs.next_places.after_head.Goals as goal
 

@@ -1,5 +1,4 @@
-use Rattle.std.proofs.Common.{ap, subst, ◌∙◌, ◌≤◌, List, ℕ, length}
-use Rattle.wav_io.specs.Reading.{Reads, wav_file, most_bytes}
+use Rattle.wav_io.specs.Prelude.{ap, length, List, subst, ℕ, ◌∙◌, ◌≤◌, most_bytes, Reads, wav_file}
 use Rattle.wav_io.proofs.Files.{wav_file-canonical}
 use Rattle.wav_io.proofs.Refusals.{refusal_comes}
 use Rattle.wav_io.proofs.reading.read_wav.Goals as goal

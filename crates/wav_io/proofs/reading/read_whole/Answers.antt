@@ -1,6 +1,4 @@
-use Rattle.std.proofs.Common.{◌≡◌, ◌%◌, [], Ok, Err, ap, ◌∙◌, length, List, ℤ}
-use Rattle.wav_io.specs.declared.error.WavError.TheVariants.{Memory}
-use Rattle.wav_io.specs.Reading.{wav_file}
+use Rattle.wav_io.specs.Prelude.{ap, Err, length, List, Ok, ℤ, [], ◌%◌, ◌∙◌, ◌≡◌, Memory, wav_file}
 use Rattle.wav_io.proofs.Readers.{refusal_from, whole_err, whole_ok}
 use Rattle.wav_io.proofs.reading.read_whole.Goals as goal
 

@@ -1,10 +1,5 @@
-use Rattle.std.proofs.Common.{◌≡◌, sym, ap, subst, ◌∙◌, arith, ◌++◌, ◌-◌, List, ℕ, [], length, take, drop}
-use Rattle.std.proofs.lemmas.List.{take_all, drop_all}
-use Rattle.wav_io.specs.declared.place.Place.TheVariants.{FormatBody}
-use Rattle.wav_io.specs.Chunks.{chunks}
-use Rattle.wav_io.specs.Formats.{format_of}
-use Rattle.wav_io.specs.Pieces.{LeadsTo, GoesOn}
-use Rattle.wav_io.specs.Reading.{scan_of, finding_after, verdict_of_format}
+use Rattle.wav_io.specs.Prelude.{ap, arith, drop, length, List, subst, sym, take, ℕ, [], ◌++◌, ◌-◌, ◌∙◌, ◌≡◌, drop_all, take_all, FormatBody, chunks, format_of}
+use Rattle.wav_io.specs.Prelude.{GoesOn, LeadsTo, finding_after, scan_of, verdict_of_format}
 use Rattle.wav_io.proofs.Places.{body-stays, body-leads, front_is}
 use Rattle.wav_io.proofs.steps.format_body.Goals as goal
 

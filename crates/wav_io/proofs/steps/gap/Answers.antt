@@ -1,6 +1,4 @@
-use Rattle.std.proofs.Common.{sym, subst, arith, List, ℕ, ◌-◌}
-use Rattle.wav_io.specs.declared.place.Place.TheVariants.{Head}
-use Rattle.wav_io.specs.Pieces.{GoesOn}
+use Rattle.wav_io.specs.Prelude.{arith, List, subst, sym, ℕ, ◌-◌, Head, GoesOn}
 use Rattle.wav_io.proofs.Places.{gap-stays}
 use Rattle.wav_io.proofs.steps.gap.Goals as goal
 

@@ -1,8 +1,4 @@
-use Rattle.std.proofs.Common.{◌≡◌, sym, subst, arith, ◌++◌, List, ℕ}
-use Rattle.wav_io.specs.declared.place.Place.TheVariants.{Head}
-use Rattle.wav_io.specs.Chunks.{chunks}
-use Rattle.wav_io.specs.Pieces.{LeadsTo, GoesOn}
-use Rattle.wav_io.specs.Reading.{scan_of}
+use Rattle.wav_io.specs.Prelude.{arith, List, subst, sym, ℕ, ◌++◌, ◌≡◌, Head, chunks, GoesOn, LeadsTo, scan_of}
 use Rattle.wav_io.proofs.Places.{head-stays, head-leads, fewer}
 use Rattle.wav_io.proofs.steps.head.Goals as goal
 

@@ -1,7 +1,4 @@
-use Rattle.std.proofs.Common.{sym, subst, arith, ◌++◌, List, ℕ}
-use Rattle.wav_io.specs.declared.place.Place.TheVariants.{Opening}
-use Rattle.wav_io.specs.Pieces.{LeadsTo, GoesOn}
-use Rattle.wav_io.specs.Reading.{found_in}
+use Rattle.wav_io.specs.Prelude.{arith, List, subst, sym, ℕ, ◌++◌, Opening, GoesOn, LeadsTo, found_in}
 use Rattle.wav_io.proofs.Places.{opening-stays, opening-leads, fewer}
 use Rattle.wav_io.proofs.steps.opening.Goals as goal
 

@@ -1,11 +1,5 @@
-use Rattle.std.proofs.Common.{◌≡◌, ◌*◌, ◌<◌, ◌++◌, [], ◌∷◌, ℤ, ℕ, List, length, take, get_or, pos, arith, rules, sym, ap, subst, ◌∙◌, length-set}
-use Rattle.std.specs.Prelude.{All, FitsSigned}
-use Rattle.std.specs.Int.{w16}
-use Rattle.std.specs.List.{flat_map}
-use Rattle.std.proofs.lemmas.Int.{to_z-of_z}
-use Rattle.std.proofs.lemmas.List.{take_all, take_more, flat_map_more}
-use Rattle.std.proofs.lemmas.List.Elements.{All-more}
-use Rattle.wav_io.specs.Canonical.{sample_bytes}
+use Rattle.wav_io.specs.Prelude.{ap, arith, get_or, length, length-set, List, pos, rules, subst, sym, take, ℕ, ℤ, [], ◌*◌, ◌++◌, ◌<◌, ◌∙◌, ◌∷◌, ◌≡◌, to_z-of_z}
+use Rattle.wav_io.specs.Prelude.{flat_map_more, take_all, take_more, All-more, w16, flat_map, All, FitsSigned, sample_bytes}
 use Rattle.wav_io.proofs.Bodies.{pair_put}
 use Rattle.wav_io.proofs.writing.encode.Goals as goal
 

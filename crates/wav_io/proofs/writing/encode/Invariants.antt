@@ -1,8 +1,4 @@
-use Rattle.std.proofs.Common.{◌≡◌, ◌*◌, take, length}
-use Rattle.std.specs.Prelude.{All, FitsSigned}
-use Rattle.std.specs.List.{flat_map}
-use Rattle.std.specs.Int.{w16}
-use Rattle.wav_io.specs.Canonical.{sample_bytes}
+use Rattle.wav_io.specs.Prelude.{length, take, ◌*◌, ◌≡◌, w16, flat_map, All, FitsSigned, sample_bytes}
 use Rattle.wav_io.proofs.writing.encode.Given as goal
 
 abbrev pub invariant-loop-i : goal.invariant-loop-i

@@ -1,5 +1,4 @@
-use Rattle.std.proofs.Common.{ap, subst, ◌∙◌}
-use Rattle.wav_io.specs.Sound.{Sound, IsWholeSound}
+use Rattle.wav_io.specs.Prelude.{ap, subst, ◌∙◌, IsWholeSound, Sound}
 use Rattle.wav_io.proofs.Files.{file_from}
 use Rattle.wav_io.proofs.writing.write_file.Goals as goal
 

@@ -1,8 +1,5 @@
-use Rattle.std.proofs.Common.{◌≡◌, ◌+◌, ◌∷◌, ℕ, suc, List, length, sym, ap, ap₂, ◌∙◌, arith, rules}
-use Rattle.asound_conf.specs.Items.{named_nodes}
-use Rattle.asound_conf.specs.Node.{node_of}
-use Rattle.asound_conf.specs.Rows.{ConfRow, entries_from, row_at}
-use Rattle.asound_conf.specs.Tree.{Tree}
+use Rattle.asound_conf.specs.Prelude.{ap, ap₂, arith, length, List, rules, suc, sym, ℕ, ◌+◌, ◌∙◌, ◌∷◌, ◌≡◌, named_nodes, node_of, ConfRow, entries_from, row_at}
+use Rattle.asound_conf.specs.Prelude.{Tree}
 use Rattle.asound_conf.proofs.items.ItemsIterator.next.Goals as goal
 
 pub returns-in-Some-clause-steps : goal.returns-in-Some-clause-steps

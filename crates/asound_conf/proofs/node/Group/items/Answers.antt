@@ -1,6 +1,4 @@
-use Rattle.std.proofs.Common.{◌≡◌, ◌+◌, ℕ, suc, ap, arith}
-use Rattle.asound_conf.specs.Items.{named_nodes}
-use Rattle.asound_conf.specs.Rows.{entries_from}
+use Rattle.asound_conf.specs.Prelude.{ap, arith, suc, ℕ, ◌+◌, ◌≡◌, named_nodes, entries_from}
 use Rattle.asound_conf.proofs.node.Group.items.Goals as goal
 
 pub returns : goal.returns

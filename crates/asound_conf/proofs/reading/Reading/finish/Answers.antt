@@ -1,10 +1,5 @@
-use Rattle.std.proofs.Common.{◌≡◌, ◌<◌, ◌∙◌, [], arith, length, map, sym}
-use Rattle.std.specs.Prelude.{reverse}
-use Rattle.std.proofs.lemmas.Bool.Decides.{nat_tests}
-use Rattle.std.proofs.lemmas.List.{length-map, length-reverse, nil_from_length}
-use Rattle.asound_conf.specs.Grammar.{last_line}
-use Rattle.asound_conf.specs.Opening.{bracket_of}
-use Rattle.asound_conf.specs.Reading.{state_of}
+use Rattle.asound_conf.specs.Prelude.{arith, length, map, sym, [], ◌<◌, ◌∙◌, ◌≡◌, nat_tests, length-map, length-reverse, nil_from_length, reverse, last_line}
+use Rattle.asound_conf.specs.Prelude.{bracket_of, state_of}
 use Rattle.asound_conf.proofs.Readings.{end_of_text-open}
 use Rattle.asound_conf.proofs.reading.Reading.finish.Goals as goal
 

@@ -1,6 +1,4 @@
-use Rattle.std.proofs.Common.{◌≤◌, drop, length, take}
-use Rattle.std.specs.Prelude.{reverse}
-use Rattle.std.proofs.lemmas.List.{drop-append-le, take-append-le}
+use Rattle.asound_conf.specs.Prelude.{drop, length, take, ◌≤◌, drop-append-le, take-append-le, reverse}
 use Rattle.asound_conf.proofs.Readers.{names-least, number-open}
 use Rattle.asound_conf.proofs.reading.Reading.go_to_number.Goals as goal
 

@@ -1,6 +1,4 @@
-use Rattle.std.proofs.Common.{ap}
-use Rattle.asound_conf.specs.Grammar.{value_place}
-use Rattle.asound_conf.specs.Reading.{state_of}
+use Rattle.asound_conf.specs.Prelude.{ap, value_place, state_of}
 use Rattle.asound_conf.proofs.reading.Reading.go_to_value.Goals as goal
 
 pub returns-in-Value-clause-place : goal.returns-in-Value-clause-place

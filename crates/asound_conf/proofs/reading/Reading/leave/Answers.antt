@@ -1,6 +1,4 @@
-use Rattle.std.proofs.Common.{refl, [], arith, drop, take, ◌∷◌}
-use Rattle.std.specs.Prelude.{reverse}
-use Rattle.std.proofs.lemmas.List.{reverse-append, take-take}
+use Rattle.asound_conf.specs.Prelude.{arith, drop, refl, take, [], ◌∷◌, reverse-append, take-take, reverse}
 use Rattle.asound_conf.proofs.Readers.{close-leads, close-open, drop-front}
 use Rattle.asound_conf.proofs.reading.Reading.leave.Goals as goal
 

@@ -1,5 +1,4 @@
-use Rattle.std.proofs.Common.{ap}
-use Rattle.asound_conf.specs.Rows.{Contents}
+use Rattle.asound_conf.specs.Prelude.{ap, Contents}
 use Rattle.asound_conf.proofs.Readers.{new-open, new-start}
 use Rattle.asound_conf.proofs.reading.Reading.new.Goals as goal
 

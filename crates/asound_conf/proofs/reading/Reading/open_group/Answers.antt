@@ -1,10 +1,6 @@
-use Rattle.std.proofs.Common.{◌≡◌, ◌<◌, ◌+◌, ℕ, ◌∷◌, [], length, take, drop, Ok, refl, arith}
-use Rattle.std.specs.Prelude.{reverse}
-use Rattle.std.proofs.lemmas.List.{length-drop, length-take, reverse-append, take-append-drop}
-use Rattle.std.proofs.lemmas.Result.{err_from_is_err_and}
-use Rattle.std.proofs.Math.Seq.{drop-length, take-length}
+use Rattle.asound_conf.specs.Prelude.{arith, drop, length, Ok, refl, take, ℕ, [], ◌+◌, ◌<◌, ◌∷◌, ◌≡◌, drop-length, take-length, length-drop, length-take}
+use Rattle.asound_conf.specs.Prelude.{reverse-append, take-append-drop, err_from_is_err_and, reverse, parts_in}
 use Rattle.asound_conf.specs.Key.{without_marks}
-use Rattle.asound_conf.specs.Parts.{parts_in}
 use Rattle.asound_conf.proofs.Readers.{group-open, key-clear, names-least, open_group-deep, open_group-refused, open_group-state}
 use Rattle.asound_conf.proofs.reading.Reading.open_group.Goals as goal
 

@@ -1,9 +1,5 @@
-use Rattle.std.proofs.Common.{arith, drop, take, true}
-use Rattle.std.specs.Prelude.{reverse}
-use Rattle.std.proofs.lemmas.List.{take-take}
+use Rattle.asound_conf.specs.Prelude.{arith, drop, take, true, take-take, reverse, parts_in, span_in}
 use Rattle.asound_conf.specs.Key.{without_marks}
-use Rattle.asound_conf.specs.Parts.{parts_in}
-use Rattle.asound_conf.specs.Table.{span_in}
 use Rattle.asound_conf.proofs.Readers.{drop-front, key-clear, names-least, put_text-state, text-open}
 use Rattle.asound_conf.proofs.reading.Reading.put_text.Goals as goal
 

@@ -1,12 +1,6 @@
 -- What a token does, by its kind.
-use Rattle.std.proofs.Common.{◌≡◌, ◌∙◌, ap, subst, sym}
-use Rattle.std.proofs.lemmas.Bool.{cond-false, cond-true}
-use Rattle.asound_conf.specs.Answer.{Leads}
-use Rattle.asound_conf.specs.Grammar.{step, take_text}
+use Rattle.asound_conf.specs.Prelude.{ap, subst, sym, ◌∙◌, ◌≡◌, cond-false, cond-true, Leads, step, take_text, state_of, IsTokenAt, token_of}
 use Rattle.asound_conf.specs.Key.{begins, word_parts}
-use Rattle.asound_conf.specs.Reading.{state_of}
-use Rattle.asound_conf.specs.Start.{IsTokenAt}
-use Rattle.asound_conf.specs.Token.{token_of}
 use Rattle.asound_conf.proofs.Readers.{Refuses-Err}
 use Rattle.asound_conf.proofs.reading.Reading.take.Goals as goal
 

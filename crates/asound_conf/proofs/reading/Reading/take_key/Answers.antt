@@ -1,5 +1,4 @@
-use Rattle.std.proofs.Common.{refl, drop, sym, take, ◌∙◌}
-use Rattle.std.specs.Prelude.{reverse}
+use Rattle.asound_conf.specs.Prelude.{drop, refl, sym, take, ◌∙◌, reverse}
 use Rattle.asound_conf.proofs.Readers.{Refuses-Err, key-open, names-least, put_key-state}
 use Rattle.asound_conf.proofs.reading.Reading.take_key.Goals as goal
 

@@ -1,8 +1,5 @@
-use Rattle.std.proofs.Common.{List, ap₂, subst}
-use Rattle.asound_conf.specs.Answer.{Leads}
-use Rattle.asound_conf.specs.Grammar.{State, put_key}
+use Rattle.asound_conf.specs.Prelude.{ap₂, List, subst, Leads, put_key, State, state_of}
 use Rattle.asound_conf.specs.Key.{Part, key_defect, word_parts}
-use Rattle.asound_conf.specs.Reading.{state_of}
 use Rattle.asound_conf.proofs.Readers.{keyed}
 use Rattle.asound_conf.proofs.reading.Reading.take_word_key.Goals as goal
 

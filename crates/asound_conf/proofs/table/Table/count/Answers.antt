@@ -1,5 +1,4 @@
-use Rattle.std.proofs.Common.{◌+◌, ◌∙◌, drop, ap}
-use Rattle.std.specs.Prelude.{count_by}
+use Rattle.asound_conf.specs.Prelude.{ap, drop, ◌+◌, ◌∙◌, count_by}
 use Rattle.asound_conf.proofs.Counts.{count_of_names-cells, counts}
 use Rattle.asound_conf.proofs.table.Table.count.Goals as goal
 

@@ -1,7 +1,4 @@
-use Rattle.std.proofs.Common.{◌∙◌, ap, length, sym}
-use Rattle.std.proofs.lemmas.List.{length-map}
-use Rattle.asound_conf.specs.Rows.{Contents}
-use Rattle.asound_conf.specs.Table.{cell_row}
+use Rattle.asound_conf.specs.Prelude.{ap, length, sym, ◌∙◌, length-map, Contents, cell_row}
 use Rattle.asound_conf.proofs.table.Table.len.Goals as goal
 
 pub returns : goal.returns

@@ -1,9 +1,6 @@
-use Rattle.std.proofs.Common.{◌≡◌, ◌<◌, ◌∷◌, ◌++◌, [], ℕ, List, length, get_or, replicate, ap, ap₂, refl, subst, sym, ◌∙◌, arith}
-use Rattle.std.proofs.lemmas.List.{get_or-replicate, length-replicate}
-use Rattle.asound_conf.specs.declared.cell.Cell.{Cell}
-use Rattle.asound_conf.specs.declared.cell.Content.TheVariants.{Group}
+use Rattle.asound_conf.specs.Prelude.{ap, ap₂, arith, get_or, length, List, refl, replicate, subst, sym, ℕ, [], ◌++◌, ◌<◌, ◌∙◌, ◌∷◌, ◌≡◌, get_or-replicate}
+use Rattle.asound_conf.specs.Prelude.{length-replicate, Cell, Group, contents_of, IsTable, no_number}
 use Rattle.asound_conf.specs.declared.cell.Name.TheVariants.{Bytes}
-use Rattle.asound_conf.specs.Table.{IsTable, contents_of, no_number}
 use Rattle.asound_conf.proofs.Tables.{IsTable-new}
 use Rattle.asound_conf.proofs.table.Table.new.Goals as goal
 

@@ -1,8 +1,5 @@
-use Rattle.std.proofs.Common.{◌≡◌, ℕ, List, length, map, ap, subst, arith}
-use Rattle.std.specs.Prelude.{IfOk, OnOk, vec_len}
-use Rattle.std.proofs.lemmas.List.{length-map}
-use Rattle.asound_conf.specs.Rows.{Contents, with_row}
-use Rattle.asound_conf.specs.Table.{IsTable, cell_row, contents_of, new_row}
+use Rattle.asound_conf.specs.Prelude.{ap, arith, IfOk, length, List, map, OnOk, subst, ℕ, ◌≡◌, length-map, vec_len, Contents, with_row, cell_row, contents_of}
+use Rattle.asound_conf.specs.Prelude.{IsTable, new_row}
 use Rattle.asound_conf.proofs.table.Table.push.Goals as goal
 
 pub invariant_of-self : goal.invariant_of-self

@@ -1,15 +1,6 @@
-use Rattle.std.proofs.Common.{◌≡◌, ◌-◌, ◌/◌, ℕ, ℤ, Bool, true, false, List, length, min, ◌∙◌, refl, sym, ap, subst}
-use Rattle.snd_base.specs.declared.geometry.Geometry.{Geometry}
-use Rattle.snd_base.specs.declared.places.Cursor.{Cursor}
-use Rattle.snd_base.specs.Places.{end_frame}
-use Rattle.sum_table.specs.Players.{next_of_player, position_of_player}
-use Rattle.card_player.specs.declared.player.CardPlayer.{CardPlayer}
-use Rattle.card_player.specs.PlayLaws.{last_number-positions_of}
-use Rattle.card_player.specs.Plays.{frame_of, frames_left, geometry_of, seat_of}
-use Rattle.card_sim.specs.RunLaws.{RunsFrames-alone}
-use Rattle.card_sim.specs.Runs.{RunsFrames}
-use Rattle.card_sim.specs.Steps.{AreSeatsOfCard}
-use Rattle.snoop_table.specs.declared.seats.writer.WriterSeat.{WriterSeat}
+use Rattle.card_sim.specs.Prelude.{ap, Bool, false, length, List, min, refl, subst, sym, true, ℕ, ℤ, ◌-◌, ◌/◌, ◌∙◌, ◌≡◌, Geometry, Cursor, end_frame}
+use Rattle.card_sim.specs.Prelude.{next_of_player, position_of_player, WriterSeat, CardPlayer, last_number-positions_of, frame_of, frames_left, geometry_of}
+use Rattle.card_sim.specs.Prelude.{seat_of, RunsFrames-alone, RunsFrames, AreSeatsOfCard}
 use Rattle.card_sim.proofs.card.Card.run.Goals as goal
 
 pub invariant_of-self : goal.invariant_of-self

@@ -1,7 +1,5 @@
-use Rattle.std.proofs.Common.{◌≡◌, to_z-of_z, w64}
+use Rattle.dmix_c.specs.Prelude.{to_z-of_z, w64, ◌≡◌, HasPlayed, OnCard}
 use Rattle.dmix_c.proofs.Handed.{handed}
-use Rattle.dmix_c.specs.Handles.{OnCard}
-use Rattle.dmix_c.specs.Cards.{HasPlayed}
 use Rattle.dmix_c.proofs.calls.card.dmix_c_card_play.Goals as goal
 
 -- what was taken from the handle was called, and put back

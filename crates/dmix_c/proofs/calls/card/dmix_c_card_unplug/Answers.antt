@@ -1,9 +1,5 @@
-use Rattle.std.proofs.Common.{to_z-of_z, w64}
+use Rattle.dmix_c.specs.Prelude.{to_z-of_z, w64, ⊤, IsUnplugged, IsDuplexUnplugged, OnEitherCard}
 use Rattle.dmix_c.proofs.Handed.{handed}
-use Rattle.std.specs.Prelude.{⊤}
-use Rattle.dmix_c.specs.Handles.{OnEitherCard}
-use Rattle.dmix_c.specs.Cards.{IsUnplugged}
-use Rattle.dmix_c.specs.Duplex.{IsDuplexUnplugged}
 use Rattle.dmix_c.proofs.calls.card.dmix_c_card_unplug.Goals as goal
 
 -- what was taken from the handle was called, and put back

@@ -1,7 +1,4 @@
-use Rattle.std.proofs.Common.{◌≡◌, refl, to_z-of_z, w64}
-use Rattle.dmix_c.specs.declared.opened.Opened.TheVariants.{Card}
-use Rattle.dmix_c.specs.Cards.{HasPlayed}
-use Rattle.dmix_c.specs.Handles.{OnCard}
+use Rattle.dmix_c.specs.Prelude.{refl, to_z-of_z, w64, ◌≡◌, Card, HasPlayed, OnCard}
 use Rattle.dmix_c.proofs.Handed.{called}
 use Rattle.dmix_c.proofs.calls.card.play_card.Goals as goal
 

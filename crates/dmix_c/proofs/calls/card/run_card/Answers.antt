@@ -1,7 +1,4 @@
-use Rattle.std.proofs.Common.{◌≡◌, refl, to_z-of_z, w64}
-use Rattle.dmix_c.specs.declared.opened.Opened.TheVariants.{Duplex}
-use Rattle.dmix_c.specs.Duplex.{HasRunCard}
-use Rattle.dmix_c.specs.Handles.{OnDuplex}
+use Rattle.dmix_c.specs.Prelude.{refl, to_z-of_z, w64, ◌≡◌, Duplex, HasRunCard, OnDuplex}
 use Rattle.dmix_c.proofs.Handed.{called}
 use Rattle.dmix_c.proofs.calls.card.run_card.Goals as goal
 

@@ -1,9 +1,4 @@
-use Rattle.std.proofs.Common.{refl}
-use Rattle.std.specs.Prelude.{⊤, pos}
-use Rattle.dmix_c.specs.declared.opened.Opened.TheVariants.{Card, Duplex}
-use Rattle.dmix_c.specs.Cards.{IsUnplugged}
-use Rattle.dmix_c.specs.Duplex.{IsDuplexUnplugged}
-use Rattle.dmix_c.specs.Handles.{OnEitherCard}
+use Rattle.dmix_c.specs.Prelude.{refl, pos, ⊤, Card, Duplex, IsUnplugged, IsDuplexUnplugged, OnEitherCard}
 use Rattle.dmix_c.proofs.Handed.{called}
 use Rattle.dmix_c.proofs.calls.card.unplug_card.Goals as goal
 

@@ -1,7 +1,4 @@
-use Rattle.std.proofs.Common.{to_z-of_z, w64}
-use Rattle.std.specs.Prelude.{⊤}
-use Rattle.dmix_c.specs.Handles.{OnClient}
-use Rattle.dmix_c.specs.Clients.{HasServed}
+use Rattle.dmix_c.specs.Prelude.{to_z-of_z, w64, ⊤, HasServed, OnClient}
 use Rattle.dmix_c.proofs.Handed.{handed}
 use Rattle.dmix_c.proofs.calls.client.ask_client.Goals as goal
 

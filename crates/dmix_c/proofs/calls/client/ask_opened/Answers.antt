@@ -1,8 +1,4 @@
-use Rattle.std.proofs.Common.{refl, to_z-of_z, w64}
-use Rattle.std.specs.Prelude.{⊤}
-use Rattle.dmix_c.specs.declared.opened.Opened.TheVariants.{Client}
-use Rattle.dmix_c.specs.Handles.{OnClient}
-use Rattle.dmix_c.specs.Clients.{HasServed}
+use Rattle.dmix_c.specs.Prelude.{refl, to_z-of_z, w64, ⊤, Client, HasServed, OnClient}
 use Rattle.dmix_c.proofs.Handed.{called}
 use Rattle.dmix_c.proofs.calls.client.ask_opened.Goals as goal
 

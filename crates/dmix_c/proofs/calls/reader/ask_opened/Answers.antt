@@ -1,8 +1,4 @@
-use Rattle.std.proofs.Common.{refl, to_z-of_z, w64}
-use Rattle.std.specs.Prelude.{⊤}
-use Rattle.dmix_c.specs.declared.opened.Opened.TheVariants.{Reader}
-use Rattle.dmix_c.specs.Handles.{OnReader}
-use Rattle.dmix_c.specs.Readers.{ReaderHasServed}
+use Rattle.dmix_c.specs.Prelude.{refl, to_z-of_z, w64, ⊤, Reader, OnReader, ReaderHasServed}
 use Rattle.dmix_c.proofs.Handed.{called}
 use Rattle.dmix_c.proofs.calls.reader.ask_opened.Goals as goal
 

@@ -1,7 +1,4 @@
-use Rattle.std.proofs.Common.{to_z-of_z, w64}
-use Rattle.std.specs.Prelude.{⊤}
-use Rattle.dmix_c.specs.Handles.{OnReader}
-use Rattle.dmix_c.specs.Readers.{ReaderHasServed}
+use Rattle.dmix_c.specs.Prelude.{to_z-of_z, w64, ⊤, OnReader, ReaderHasServed}
 use Rattle.dmix_c.proofs.Handed.{handed}
 use Rattle.dmix_c.proofs.calls.reader.ask_reader.Goals as goal
 

@@ -1,7 +1,5 @@
-use Rattle.std.proofs.Common.{◌≡◌, to_z-of_z, w64}
+use Rattle.dmix_c.specs.Prelude.{to_z-of_z, w64, ◌≡◌, OnReader, ReaderHasRead}
 use Rattle.dmix_c.proofs.Handed.{handed}
-use Rattle.dmix_c.specs.Handles.{OnReader}
-use Rattle.dmix_c.specs.Readers.{ReaderHasRead}
 use Rattle.dmix_c.proofs.calls.reader.dmix_c_reader_readi.Goals as goal
 
 -- what was taken from the handle was called, and put back

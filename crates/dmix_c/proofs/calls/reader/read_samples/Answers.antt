@@ -1,7 +1,4 @@
-use Rattle.std.proofs.Common.{◌≡◌, refl, to_z-of_z, w64}
-use Rattle.dmix_c.specs.declared.opened.Opened.TheVariants.{Reader}
-use Rattle.dmix_c.specs.Handles.{OnReader}
-use Rattle.dmix_c.specs.Readers.{ReaderHasRead}
+use Rattle.dmix_c.specs.Prelude.{refl, to_z-of_z, w64, ◌≡◌, Reader, OnReader, ReaderHasRead}
 use Rattle.dmix_c.proofs.Handed.{called}
 use Rattle.dmix_c.proofs.calls.reader.read_samples.Goals as goal
 

@@ -1,6 +1,4 @@
-use Rattle.std.proofs.Common.{ℤ, subst, sym, to_z-of_z, w64}
-use Rattle.dmix_c.specs.Handles.{OpensBoth}
-use Rattle.dmix_c.specs.Stands.{stands_for}
+use Rattle.dmix_c.specs.Prelude.{subst, sym, to_z-of_z, w64, ℤ, OpensBoth, stands_for}
 use Rattle.dmix_c.proofs.HandleLaws.{OpensPair-done, some_or-closed}
 use Rattle.dmix_c.proofs.calls.ring.open_pair.Goals as goal
 

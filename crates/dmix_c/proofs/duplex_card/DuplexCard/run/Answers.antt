@@ -1,5 +1,4 @@
-use Rattle.std.proofs.Common.{◌∙◌, refl, sym}
-use Rattle.std.proofs.lemmas.Bool.{false≢true}
+use Rattle.dmix_c.specs.Prelude.{refl, sym, ◌∙◌, false≢true}
 use Rattle.dmix_c.proofs.duplex_card.DuplexCard.run.Goals as goal
 
 pub returns-then-not-are_buffers : goal.returns-then-not-are_buffers

@@ -1,8 +1,4 @@
-use Rattle.std.proofs.Common.{ap, sym, ◌∙◌}
-use Rattle.std.specs.Prelude.{Some}
-use Rattle.std.proofs.lemmas.Option.{none-some}
-use Rattle.dmix_c.specs.declared.opened.Opened.{Opened}
-use Rattle.dmix_c.specs.Channels.{channels_held, channels_of}
+use Rattle.dmix_c.specs.Prelude.{ap, sym, ◌∙◌, none-some, Some, Opened, channels_held, channels_of}
 use Rattle.dmix_c.proofs.handle.Handle.put.Goals as goal
 
 -- a handle of what was put there

@@ -1,5 +1,4 @@
-use Rattle.std.proofs.Common.{ap, refl, sym}
-use Rattle.dmix_c.specs.Channels.{channels_held}
+use Rattle.dmix_c.specs.Prelude.{ap, refl, sym, channels_held}
 use Rattle.dmix_c.proofs.handle.Handle.take.Goals as goal
 
 -- a closed handle

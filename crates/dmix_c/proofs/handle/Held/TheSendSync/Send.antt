@@ -1,21 +1,14 @@
 -- What a handle owns may go to another thread: what is in the box is `Send`, and any thread may free a block of the C heap.
-use Rattle.std.specs.Prelude.{Option, None, Some}
-use mir.Raw.{raw}
-use base.Shift.{Keyless}
-use denote.RattleType.{RattleType}
-use denote.Memory.{lone}
-use denote.RawPtr.{Ptr}
-use denote.Struct.Struct.{exits_of}
-use denote.Struct.Owning.{fields, shape, to}
-use denote.Param.Send.{AllSend, IsSend, owning_send, sendable, struct_send}
-use Rattle.std.specs.declared.alloc.Global.{Global}
+use Rattle.dmix_c.specs.Prelude.{None, Option, Some, Global, lone, RattleType, Ptr, fields, shape, to, exits_of, may_own}
 use Rattle.std.proofs.Crossing.{frees}
-use Rattle.std.proofs.alloc.Global.TheSendSync as heap
 use Rattle.std_alloc.proofs.SendSync.{lies, quiet}
-use Rattle.dmix_c.specs.Owned.{may_own}
+use base.Shift.{Keyless}
+use denote.Param.Send.{AllSend, IsSend, owning_send, sendable, struct_send}
+use mir.Raw.{raw}
 use Rattle.dmix_c.specs.contracts.handle.Held.{the_row, the_type}
-use Rattle.dmix_c.specs.contracts.opened.Opened as opened
 use Rattle.dmix_c.proofs.opened.Opened.TheSendSync.{the_send as opened_send}
+use Rattle.std.proofs.alloc.Global.TheSendSync as heap
+use Rattle.dmix_c.specs.contracts.opened.Opened as opened
 
 may_own_keyless : (R : RattleType) → IsSend R → (a : Global) (p : Ptr) (held : Option R.Denot) → Keyless (may_own R a p held)
 may_own_keyless R s a p None = tt

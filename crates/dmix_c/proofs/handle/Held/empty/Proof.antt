@@ -1,32 +1,13 @@
 -- `empty` owns nothing but the allocator.
-use Rattle.std.proofs.Common.{◌≡◌, List, [], ◌∷◌, ◌++◌, refl, sym, subst, lit<}
-use mir.Val.{Val, vint}
-use mir.Syntax.{w64}
-use base.Logic.{SProp, ent, emp, id⊢}
-use prog.Wp.{WpFn}
-use types.Kit.{‵, raw, ◌⊛◌, ◌$◌, ◌∵◌, !, qed, by, move, keep, drop, split, fsplit, fjoin, suffices, use0}
-use types.Run.{lit, no_more, and_then, returns, enter}
-use types.ByLocal.{alloc_all, pass_all, free_all, look_at, get, sets}
-use types.Part.{agg}
-use contract.Monad.{fact, fact_i}
-use contract.Running.{tables}
-use denote.RattleType.{owns}
-use denote.RawPtr.{null_ptr}
-use denote.Signature.{types_at, plain}
-use denote.Steps.{nothing}
-use denote.Triple.Entry.{alive}
-use denote.Triple.Walked.{Stays, stay_dropped, walk_of}
-use Rattle.core.proofs.alloc.Calls.{Goes-blank, handle_tells}
-use Rattle.std.proofs.raw_atomic.Walks.{proved_at, leaves}
-use Rattle.std.specs.Prelude.{Option, None}
+use Rattle.dmix_c.specs.Prelude.{List, lit<, refl, subst, sym, w64, [], ◌++◌, ◌∷◌, ◌≡◌, leaves, proved_at, None, Option, Goes-blank, handle_tells, and_tt, emp}
+use Rattle.dmix_c.specs.Prelude.{ent, id⊢, SProp, fact, fact_i, tables, layout, owns, null_ptr, plain, types_at, nothing, alive, stay_dropped, Stays, walk_of}
+use Rattle.dmix_c.specs.Prelude.{has_ty, Val, vint, WpFn, alloc_all, free_all, get, look_at, pass_all, sets, by, drop, fjoin, fsplit, keep, move, qed, raw}
+use Rattle.dmix_c.specs.Prelude.{split, suffices, use0, !, ‵, ◌$◌, ◌∵◌, ◌⊛◌, agg, and_then, enter, lit, no_more, returns}
 use Rattle.std.specs.contracts.impls.GlobalAllocator.TheImpl.{ghosts}
-use denote.Param.{layout}
-use Rattle.std_alloc.proofs.ResultValues.{and_tt}
-use mir.Val.{has_ty}
-use Rattle.dmix_c.proofs.Boxes.{allocator_of, words}
-use Rattle.dmix_c.proofs.Handles.{R, Z, LZ, held_none}
 use Rattle.dmix_c.specs.contracts.handle.Held.empty.{ended, clauses}
 use Rattle.dmix_c.specs.contracts.handle.Held.empty.Key.{name as #self}
+use Rattle.dmix_c.proofs.Boxes.{allocator_of, words}
+use Rattle.dmix_c.proofs.Handles.{R, Z, LZ, held_none}
 use Rattle.dmix_c.proofs.handle.Held.empty.Statement.{statement}
 use Rattle.dmix_c.proofs.handle.Held.empty.Code as code
 

@@ -1,28 +1,13 @@
 -- `seal` casts the pointer and owns what the loose box owned.
-use Rattle.std.proofs.Common.{◌≡◌, List, [], ◌∷◌, ◌++◌, refl, sym, subst}
-use mir.Val.{Val, vptr}
-use base.Logic.{SProp, ent, emp, id⊢}
-use prog.Wp.{WpFn}
-use types.Kit.{‵, raw, ◌⊛◌, ◌$◌, ◌∵◌, !, qed, by, move, keep, drop, split, fsplit, fjoin, suffices, use0}
-use types.Run.{stop, fld, of_opd, no_more, and_then, returns, enter}
-use types.ByLocal.{alloc_all, pass_all, free_all, look_at, get, get_in, sets}
-use types.Part.{agg, sub, whole}
-use contract.Monad.{fact, fact_i}
-use contract.Running.{tables}
-use denote.RattleType.{RattleType, owns}
-use denote.RawPtr.{block_ptr}
-use denote.Signature.{types_at, plain}
-use denote.Steps.{nothing}
-use denote.Triple.Entry.{alive}
-use denote.Triple.Walked.{Stays, stay_dropped, walk_of}
-use Rattle.core.proofs.alloc.Calls.{Goes-blank}
-use Rattle.std.proofs.raw_atomic.Walks.{proved_at, leaves}
-use Rattle.std.specs.Prelude.{Some}
+use Rattle.dmix_c.specs.Prelude.{List, refl, subst, sym, [], ◌++◌, ◌∷◌, ◌≡◌, leaves, proved_at, Some, Goes-blank, emp, ent, id⊢, SProp, fact, fact_i, tables}
+use Rattle.dmix_c.specs.Prelude.{owns, RattleType, block_ptr, plain, types_at, nothing, alive, stay_dropped, Stays, walk_of, Val, vptr, WpFn, alloc_all}
+use Rattle.dmix_c.specs.Prelude.{free_all, get, get_in, look_at, pass_all, sets, by, drop, fjoin, fsplit, keep, move, qed, raw, split, suffices, use0, !, ‵}
+use Rattle.dmix_c.specs.Prelude.{◌$◌, ◌∵◌, ◌⊛◌, agg, sub, whole, and_then, enter, fld, no_more, of_opd, returns, stop}
 use Rattle.std.specs.contracts.impls.GlobalAllocator.TheImpl.{ghosts}
-use Rattle.dmix_c.proofs.Boxes.{Loose, apart, words, words_typed}
-use Rattle.dmix_c.proofs.Handles.{R, Z, LZ, held_in}
 use Rattle.dmix_c.specs.contracts.handle.Held.seal.{ended, clauses}
 use Rattle.dmix_c.specs.contracts.handle.Held.seal.Key.{name as #self}
+use Rattle.dmix_c.proofs.Boxes.{Loose, apart, words, words_typed}
+use Rattle.dmix_c.proofs.Handles.{R, Z, LZ, held_in}
 use Rattle.dmix_c.proofs.handle.Held.seal.Statement.{statement}
 use Rattle.dmix_c.proofs.handle.Held.seal.Code as code
 

@@ -1,42 +1,20 @@
 -- `into_box`: the two parts are handed to the call that makes a box of them, with what is at the address.
-use Rattle.std.proofs.Common.{◌≡◌, List, [], ◌∷◌, ◌++◌, refl, sym, ap, subst}
-use mir.Syntax.{a_type, dcons, dnil}
-use mir.Val.{Val, vptr}
-use mir.MapTy.{inst_fn}
-use base.Logic.{SProp, ent, id⊢}
-use base.Fml.{ftrue, flft}
-use prog.Wp.{WpFn}
-use types.Kit.{‵, raw, ◌⊛◌, some, later, at_ret, ◌$◌, ◌∵◌, !, qed, by, move, keep, drop, split, split3, join, fsplit, fjoin, pick, suffices, use1, await, rewrite, feq_i}
-use types.Run.{stop, fld, of_opd, no_more, and_then, first, blocks, exec, returns, enter}
-use types.ByLocal.{alloc_all, pass_all, free_all, look_at, get, get_in, sets, lands_last, env}
-use types.Part.{sub, whole}
-use contract.Monad.{fact}
-use contract.BorrowLft.{◌⊑◌}
-use contract.Running.{tables}
-use denote.Exit.{no}
-use denote.RattleType.{RattleType, owns}
-use denote.Signature.{types_at, plain}
-use denote.RawPtr.{block_ptr}
-use denote.Steps.{nothing, only}
-use denote.Param.{param, layout, bounded}
-use denote.Param.Laws.{param_laws}
-use denote.Triple.Clauses.{Lasts, lasts}
-use denote.Triple.Spec.{triple_of}
-use denote.Triple.Call.{calls_at_last}
-use denote.Triple.Walked.{Stays, stay_dropped, walk_of}
-use Rattle.core.proofs.alloc.Calls.{Goes-blank}
+use Rattle.dmix_c.specs.Prelude.{ap, List, refl, subst, sym, [], ◌++◌, ◌∷◌, ◌≡◌, leaves, proved_at, Goes-blank, fm, Good, box_in, box_out, flft, ftrue, ent}
+use Rattle.dmix_c.specs.Prelude.{id⊢, SProp, fact, tables, no, bounded, layout, param, param_laws, owns, RattleType, block_ptr, plain, types_at, nothing, only}
+use Rattle.dmix_c.specs.Prelude.{calls_at_last, triple_of, stay_dropped, Stays, walk_of, inst_fn, a_type, dcons, dnil, Val, vptr, WpFn, alloc_all, env}
+use Rattle.dmix_c.specs.Prelude.{free_all, get, get_in, lands_last, look_at, pass_all, sets, at_ret, await, by, drop, feq_i, fjoin, fsplit, join, keep, later}
+use Rattle.dmix_c.specs.Prelude.{move, pick, qed, raw, rewrite, some, split, split3, suffices, use1, !, ‵, ◌$◌, ◌∵◌, ◌⊛◌, sub, whole, and_then, blocks, enter}
+use Rattle.dmix_c.specs.Prelude.{exec, first, fld, no_more, of_opd, returns, stop}
 use Rattle.core.proofs.alloc.Shapes.{after}
-use Rattle.core.proofs.atomic.Steps.{fm}
-use Rattle.core.proofs.cell.Inside.{Good}
-use Rattle.std_alloc.proofs.BoxSteps.Form as box
-use Rattle.std_alloc.proofs.BoxSteps.Steps.{box_out, box_in}
-use Rattle.std.proofs.raw_atomic.Walks.{proved_at, leaves}
-use Rattle.std_alloc.specs.contracts.boxed.Box.from_raw as joined
 use Rattle.std_alloc.proofs.boxed.Box.from_raw.Met.{met}
-use Rattle.dmix_c.proofs.Boxes.{Loose, apart, words, words_typed}
+use contract.BorrowLft.{◌⊑◌}
+use denote.Triple.Clauses.{Lasts, lasts}
 use Rattle.dmix_c.specs.contracts.loose.LooseBox.into_box.{ended, clauses}
 use Rattle.dmix_c.specs.contracts.loose.LooseBox.into_box.Key.{name as #self}
+use Rattle.dmix_c.proofs.Boxes.{Loose, apart, words, words_typed}
 use Rattle.dmix_c.proofs.loose.LooseBox.into_box.Statement.{statement}
+use Rattle.std_alloc.proofs.BoxSteps.Form as box
+use Rattle.std_alloc.specs.contracts.boxed.Box.from_raw as joined
 use Rattle.dmix_c.proofs.loose.LooseBox.into_box.Code as code
 
 pub into_box_spec : {M : Type 1} → statement M

@@ -1,43 +1,20 @@
 -- `of`: the box is handed to the call that takes it apart, and the two parts are put into the struct.
-use Rattle.std.proofs.Common.{◌≡◌, List, [], ◌∷◌, ◌++◌, refl, sym, ap, ◌∙◌, subst}
-use mir.Syntax.{a_type, dcons, dnil}
-use mir.Raw.{raw as bare}
-use mir.Val.{Val, vptr, vstruct, of_list}
-use mir.MapTy.{inst_fn}
-use base.Logic.{SProp, ent, emp, never, id⊢, fst∗}
-use base.Fml.{ftrue, fsep, flft}
-use prog.Wp.{WpFn}
-use types.Logic.{sem}
-use types.Kit.{‵, raw, ◌⊛◌, some, later, ◌$◌, ◌∵◌, !, qed, by, move, keep, drop, split, split3, join, fsplit, fjoin, fpick, pick, suffices, use0, use1, await, rewrite, feq_l}
-use types.Run.{stop, fld, of_opd, no_more, and_then, returns, enter}
-use types.ByLocal.{alloc_all, pass_all, free_all, look_at, get, get_in, sets, lands_as}
-use types.Part.{agg, sub, whole}
-use contract.Monad.{fact, fact_i}
-use contract.Running.{tables}
-use denote.Exit.{no}
-use denote.RattleType.{RattleType, owns}
-use denote.Signature.{types_at, plain}
-use denote.Builtin.{RawPtr}
-use denote.RawPtr.{Ptr, block_ptr, null_ptr, ptr_val, in_a_block}
-use denote.Steps.{nothing, only, heard}
-use denote.Param.{param, layout, bounded}
-use denote.Param.Laws.{param_laws}
-use denote.Struct.Tuple.{Tuple}
-use denote.Triple.Spec.{triple_of}
-use denote.Triple.Call.{calls_at}
-use denote.Triple.Walked.{Stays, stay_dropped, walk_of}
-use Rattle.core.proofs.alloc.Calls.{Goes-blank, handle_tells}
-use Rattle.core.proofs.atomic.Steps.{fm}
-use Rattle.std_alloc.specs.Box.Ownership.{box_owns}
-use Rattle.std_alloc.proofs.BoxSteps.Form as box
-use Rattle.std_alloc.proofs.BoxSteps.Steps.{box_out, box_in}
-use Rattle.std.proofs.raw_atomic.Walks.{proved_at, leaves}
-use Rattle.std_alloc.specs.contracts.boxed.Box.into_raw_with_allocator as apart
+use Rattle.dmix_c.specs.Prelude.{ap, List, refl, subst, sym, [], ◌++◌, ◌∙◌, ◌∷◌, ◌≡◌, leaves, proved_at, Goes-blank, handle_tells, fm, box_in, box_out}
+use Rattle.dmix_c.specs.Prelude.{box_owns, flft, fsep, ftrue, emp, ent, fst∗, id⊢, never, SProp, fact, fact_i, tables, RawPtr, no, bounded, layout, param}
+use Rattle.dmix_c.specs.Prelude.{param_laws, owns, RattleType, block_ptr, in_a_block, null_ptr, Ptr, ptr_val, plain, types_at, heard, nothing, only, calls_at}
+use Rattle.dmix_c.specs.Prelude.{triple_of, stay_dropped, Stays, walk_of, inst_fn, a_type, dcons, dnil, of_list, Val, vptr, vstruct, WpFn, alloc_all, free_all}
+use Rattle.dmix_c.specs.Prelude.{get, get_in, lands_as, look_at, pass_all, sets, await, by, drop, feq_l, fjoin, fpick, fsplit, join, keep, later, move, pick}
+use Rattle.dmix_c.specs.Prelude.{qed, raw, rewrite, some, split, split3, suffices, use0, use1, !, ‵, ◌$◌, ◌∵◌, ◌⊛◌, sem, agg, sub, whole, and_then, enter, fld}
+use Rattle.dmix_c.specs.Prelude.{no_more, of_opd, returns, stop}
 use Rattle.std_alloc.proofs.boxed.Box.into_raw_with_allocator.Met.{met}
-use Rattle.dmix_c.proofs.Boxes.{together, words, words_typed}
+use denote.Struct.Tuple.{Tuple}
+use mir.Raw.{raw as bare}
 use Rattle.dmix_c.specs.contracts.loose.LooseBox.of.{ended, clauses}
 use Rattle.dmix_c.specs.contracts.loose.LooseBox.of.Key.{name as #self}
+use Rattle.dmix_c.proofs.Boxes.{together, words, words_typed}
 use Rattle.dmix_c.proofs.loose.LooseBox.of.Statement.{statement}
+use Rattle.std_alloc.proofs.BoxSteps.Form as box
+use Rattle.std_alloc.specs.contracts.boxed.Box.into_raw_with_allocator as apart
 use Rattle.dmix_c.proofs.loose.LooseBox.of.Code as code
 
 pub of_spec : {M : Type 1} → statement M

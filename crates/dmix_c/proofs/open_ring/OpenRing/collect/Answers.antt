@@ -1,5 +1,4 @@
-use Rattle.std.proofs.Common.{[], None, arith, refl}
-use Rattle.dmix_c.specs.declared.open_ring.OpenRing.{OpenRing}
+use Rattle.dmix_c.specs.Prelude.{arith, refl, [], None, OpenRing}
 use Rattle.dmix_c.proofs.FreePlaces.{Collects-joined}
 use Rattle.dmix_c.proofs.Ringed.{KeepsRing-same, KeepsRing-then}
 use Rattle.dmix_c.proofs.open_ring.OpenRing.collect.Goals as goal

@@ -1,5 +1,4 @@
-use Rattle.std.proofs.Common.{None}
-use Rattle.dmix_c.specs.RingPlaces.{Collects, KeepsRing}
+use Rattle.dmix_c.specs.Prelude.{None, Collects, KeepsRing}
 use Rattle.dmix_c.proofs.open_ring.OpenRing.collect.Given as goal
 
 abbrev pub invariant-loop-place : goal.invariant-loop-place

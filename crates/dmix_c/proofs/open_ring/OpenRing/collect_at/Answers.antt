@@ -1,5 +1,4 @@
-use Rattle.std.proofs.Common.{[], None, arith, ◌∙◌}
-use Rattle.lobby.specs.Lobbies.{key_of_lobby, ring_of_lobby}
+use Rattle.dmix_c.specs.Prelude.{arith, [], ◌∙◌, None, key_of_lobby, ring_of_lobby}
 use Rattle.dmix_c.proofs.FreePlaces.{Collects-arrived}
 use Rattle.dmix_c.proofs.Ringed.{IsOfRing-arrived, KeepsRing-then, LeadsTo-same}
 use Rattle.dmix_c.proofs.open_ring.OpenRing.collect_at.Goals as goal

@@ -1,7 +1,4 @@
-use Rattle.std.proofs.Common.{◌<◌, ◌∙◌, None, Some, arith, length, refl}
-use Rattle.std.proofs.lemmas.List.{get_or-set_same, length-set}
-use Rattle.lobby.specs.Lobbies.{key_of_lobby, ring_of_lobby}
-use Rattle.dmix_c.specs.declared.open_ring.OpenRing.{OpenRing}
+use Rattle.dmix_c.specs.Prelude.{arith, length, refl, ◌<◌, ◌∙◌, get_or-set_same, length-set, None, Some, key_of_lobby, ring_of_lobby, OpenRing}
 use Rattle.dmix_c.proofs.Ringed.{KeepsRing-lobby, LeadTo-set}
 use Rattle.dmix_c.proofs.open_ring.OpenRing.keep_way.Goals as goal
 

@@ -1,7 +1,4 @@
-use Rattle.std.proofs.Common.{ap, ◌∙◌, refl, subst}
-use Rattle.snd_base.specs.declared.geometry.Geometry.{Geometry}
-use Rattle.snd_base.specs.declared.places.Cursor.{Cursor}
-use Rattle.snoop_table.specs.Rings.{HasSeats, geometry_of_ring}
+use Rattle.dmix_c.specs.Prelude.{ap, refl, subst, ◌∙◌, Geometry, Cursor, geometry_of_ring, HasSeats}
 use Rattle.dmix_c.proofs.OpeningDuplex.{AreInStep-new, IsAtPublished-new, IsNewDuplex-made, IsNewOpenRing-same, IsNewPair-alone, IsNewPair-captures}
 use Rattle.dmix_c.proofs.open_ring.OpenRing.open.Goals as goal
 

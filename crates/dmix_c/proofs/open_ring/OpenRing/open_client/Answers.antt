@@ -1,8 +1,5 @@
-use Rattle.std.proofs.Common.{ℕ, ◌∙◌, Option, None, Some, inl, inr, subst, sym}
+use Rattle.dmix_c.specs.Prelude.{inl, inr, subst, sym, ℕ, ◌∙◌, None, Option, Some, MixSeat, member_of, KeepsRing}
 use Rattle.std.proofs.lemmas.Result.{err_from_is_err_and}
-use Rattle.sum_table.specs.declared.seats.mix.MixSeat.{MixSeat}
-use Rattle.sum_table.specs.Seats.{member_of}
-use Rattle.dmix_c.specs.RingPlaces.{KeepsRing}
 use Rattle.dmix_c.proofs.Ringed.{KeepsRing-since, KeepsRing-then}
 use Rattle.dmix_c.proofs.open_ring.OpenRing.open_client.Goals as goal
 

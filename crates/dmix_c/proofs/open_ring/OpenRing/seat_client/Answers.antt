@@ -1,10 +1,6 @@
-use Rattle.std.proofs.Common.{ℕ, ◌<◌, ◌∙◌, ap, arith, subst, sym}
-use Rattle.rtrb.specs.Ring.{sent}
-use Rattle.sum_table.specs.declared.seats.mix.MixSeat.{MixSeat}
+use Rattle.dmix_c.specs.Prelude.{ap, arith, subst, sym, ℕ, ◌<◌, ◌∙◌, sent, MixSeat, key_of, member_of, places_of_seat, key_of_lobby, places_of_lobby}
+use Rattle.dmix_c.specs.Prelude.{ring_of_lobby, AreOfPlace}
 use Rattle.sum_table.specs.declared.view.Key.{Key}
-use Rattle.sum_table.specs.Seats.{key_of, member_of, places_of_seat}
-use Rattle.lobby.specs.Lobbies.{key_of_lobby, places_of_lobby, ring_of_lobby}
-use Rattle.dmix_c.specs.SamePlace.{AreOfPlace}
 use Rattle.dmix_c.proofs.FreePlaces.{inside-handed}
 use Rattle.dmix_c.proofs.Opening.{AreOfPlace-alone, GivesPlace-made}
 use Rattle.dmix_c.proofs.Ringed.{IsOfRing-place, LeadsTo-sent}

@@ -1,8 +1,5 @@
-use Rattle.std.proofs.Common.{◌<◌, ◌∙◌, inl, inr, refl, subst, sym}
-use Rattle.std.proofs.lemmas.Bool.{false≢true}
+use Rattle.dmix_c.specs.Prelude.{inl, inr, refl, subst, sym, ◌<◌, ◌∙◌, false≢true, key_of_lobby, ring_of_lobby, OpenRing}
 use Rattle.sum_table.specs.declared.view.Key.{Key}
-use Rattle.lobby.specs.Lobbies.{key_of_lobby, ring_of_lobby}
-use Rattle.dmix_c.specs.declared.open_ring.OpenRing.{OpenRing}
 use Rattle.dmix_c.proofs.FreePlaces.{StayFree-back}
 use Rattle.dmix_c.proofs.Ringed.{KeepsRing-same, LeadTo-same}
 use Rattle.dmix_c.proofs.open_ring.OpenRing.take_back.Goals as goal

@@ -1,12 +1,5 @@
-use Rattle.std.proofs.Common.{◌<◌, ◌∙◌, Option, arith, length, refl, set, subst, sym}
-use Rattle.std.specs.declared.alloc.Global.{Global}
-use Rattle.std.proofs.lemmas.List.{length-set}
-use Rattle.rtrb.specs.declared.consumer.Consumer.{Consumer}
-use Rattle.sum_table.specs.declared.seats.mix.MixSeat.{MixSeat}
-use Rattle.lobby.specs.Lobbies.{key_of_lobby, ring_of_lobby}
-use Rattle.dmix_c.specs.declared.open_ring.OpenRing.{OpenRing}
-use Rattle.dmix_c.specs.declared.way.OnePlace.{OnePlace}
-use Rattle.dmix_c.specs.Ways.{LeadTo}
+use Rattle.dmix_c.specs.Prelude.{arith, length, refl, set, subst, sym, ◌<◌, ◌∙◌, length-set, Option, Global, Consumer, MixSeat, key_of_lobby, ring_of_lobby}
+use Rattle.dmix_c.specs.Prelude.{OpenRing, OnePlace, LeadTo}
 use Rattle.dmix_c.proofs.Ringed.{KeepsRing-lobby, LeadTo-taken, LeadsTo-found}
 use Rattle.dmix_c.proofs.open_ring.OpenRing.take_way.Goals as goal
 

@@ -1,11 +1,7 @@
-use Rattle.std.proofs.Common.{◌≡◌, ◌∙◌, ap, arith, refl, subst, sym}
-use Rattle.snd_base.specs.declared.geometry.Geometry.{Geometry}
+use Rattle.dmix_c.specs.Prelude.{ap, arith, refl, subst, sym, ◌∙◌, ◌≡◌, Geometry, key_of_lobby, ring_of_lobby, IsGeometryOf, IsAtStart}
 use Rattle.sum_table.specs.declared.ring.SumRing.{SumRing}
 use Rattle.sum_table.specs.declared.view.Key.{Key}
 use Rattle.sum_table.specs.Rings.{key_of_ring}
-use Rattle.lobby.specs.Lobbies.{key_of_lobby, ring_of_lobby}
-use Rattle.dmix_c.specs.Params.{IsGeometryOf}
-use Rattle.dmix_c.specs.RingPlaces.{IsAtStart}
 use Rattle.dmix_c.proofs.Opening.{IsAtStart-made, IsNewOpenRing-made}
 use Rattle.dmix_c.proofs.Ringed.{LeadTo-none}
 use Rattle.dmix_c.proofs.open_ring.OpenRing.with_player.Goals as goal

@@ -1,12 +1,6 @@
-use Rattle.std.proofs.Common.{ap, arith, refl, to_z-of_z, w64, ◌∙◌}
-use Rattle.std.proofs.lemmas.Int.{to_z_pos}
-use Rattle.std.specs.Prelude.{pos, ℕ}
-use Rattle.pcm_states.specs.declared.states.State.{State}
-use Rattle.pcm_states.specs.States.{state_number}
-use Rattle.dmix_c.specs.declared.client_calls.ClientRequest.TheVariants as request
-use Rattle.dmix_c.specs.Answers.{number_of}
-use Rattle.dmix_c.specs.Clients.{HasServed}
+use Rattle.dmix_c.specs.Prelude.{ap, arith, refl, to_z-of_z, w64, ℕ, ◌∙◌, to_z_pos, pos, State, state_number, number_of, HasServed}
 use Rattle.dmix_c.proofs.Handed.{answered}
+use Rattle.dmix_c.specs.declared.client_calls.ClientRequest.TheVariants as request
 use Rattle.dmix_c.proofs.playback.Playback.answer.Goals as goal
 
 pub returns-in-Call : goal.returns-in-Call

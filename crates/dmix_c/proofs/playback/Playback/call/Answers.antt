@@ -1,6 +1,4 @@
-use Rattle.std.proofs.Common.{refl}
-use Rattle.std.proofs.Math.Logic.{∥∥₁_map}
-use Rattle.dmix_c.specs.SamePlace.{AreOfPlace-goes}
+use Rattle.dmix_c.specs.Prelude.{refl, ∥∥₁_map, AreOfPlace-goes}
 use Rattle.dmix_c.proofs.Seated.{IsSamePlace-later}
 use Rattle.dmix_c.proofs.playback.Playback.call.Goals as goal
 

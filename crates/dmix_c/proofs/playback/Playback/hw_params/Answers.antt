@@ -1,10 +1,4 @@
-use Rattle.std.proofs.Common.{◌≡◌, ◌∙◌, refl, subst}
-use Rattle.std.specs.Prelude.{false}
-use Rattle.snd_base.specs.declared.geometry.Geometry.{Geometry}
-use Rattle.sum_table.specs.Seats.{seat_view}
-use Rattle.dmix_client.specs.Port.{CanUse}
-use Rattle.dmix_client.specs.View.{ClientView}
-use Rattle.dmix_c.specs.ClientCalls.{HasSetUp, set_up_with}
+use Rattle.dmix_c.specs.Prelude.{refl, subst, ◌∙◌, ◌≡◌, false, Geometry, seat_view, CanUse, ClientView, HasSetUp, set_up_with}
 use Rattle.dmix_c.proofs.Making.{CanUse-resting}
 use Rattle.dmix_c.proofs.SettingUp.{SetsUp-keeps}
 use Rattle.dmix_c.proofs.playback.Playback.hw_params.Goals as goal

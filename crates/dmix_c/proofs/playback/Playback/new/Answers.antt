@@ -1,6 +1,4 @@
-use Rattle.std.proofs.Common.{[], ◌∙◌, ap, refl}
-use Rattle.dmix_client.specs.Calls.{new_client}
-use Rattle.dmix_client.specs.View.{ClientView}
+use Rattle.dmix_c.specs.Prelude.{ap, refl, [], ◌∙◌, new_client, ClientView}
 use Rattle.dmix_c.proofs.Opening.{CanUse-opened, backed-opened}
 use Rattle.dmix_c.proofs.playback.Playback.new.Goals as goal
 

@@ -1,11 +1,4 @@
-use Rattle.std.proofs.Common.{◌≡◌, refl, subst}
-use Rattle.std.specs.Prelude.{false, OnOk}
-use Rattle.pcm_stream.specs.Setup.{Checks}
-use Rattle.sw_limits.specs.declared.params.SwParams.{SwParams}
-use Rattle.sum_table.specs.Seats.{seat_view}
-use Rattle.dmix_client.specs.Port.{CanUse}
-use Rattle.dmix_client.specs.View.{ClientView}
-use Rattle.dmix_c.specs.Backed.{IsBackedSeat}
+use Rattle.dmix_c.specs.Prelude.{refl, subst, ◌≡◌, false, OnOk, SwParams, Checks, seat_view, CanUse, ClientView, IsBackedSeat}
 use Rattle.dmix_c.proofs.SettingUp.{kept-by}
 use Rattle.dmix_c.proofs.Thresholds.{CanUse-given, backed-given, given}
 use Rattle.dmix_c.proofs.playback.Playback.sw_params.Goals as goal

@@ -1,15 +1,9 @@
-use Rattle.std.proofs.Common.{◌∙◌, refl, sym}
-use Rattle.std.specs.Prelude.{Option}
-use Rattle.std.proofs.lemmas.Bool.{false≢true}
-use Rattle.snd_base.specs.declared.errors.PcmError.{PcmError}
-use Rattle.pcm_states.specs.declared.calls.Call.TheVariants as call
-use Rattle.pcm_stream.specs.declared.direction.Direction.TheVariants.{Playback as playback}
-use Rattle.pcm_stream.specs.Status.{refusal_of}
+use Rattle.dmix_c.specs.Prelude.{refl, sym, ◌∙◌, false≢true, Option, PcmError, Playback as playback, passed-on, refusal-of_err, refusal-of_ok, refusal_of}
+use Rattle.dmix_c.specs.Prelude.{AreOfPlace-goes}
 use Rattle.dmix_c.specs.declared.playback.Playback.{Playback}
-use Rattle.dmix_c.specs.SamePlace.{AreOfPlace-goes}
-use Rattle.pcm_stream.specs.RefusalLaws.{passed-on, refusal-of_err, refusal-of_ok}
 use Rattle.dmix_c.proofs.Seated.{KeepsPlace-later, KeepsPlace-same}
 use Rattle.dmix_c.proofs.Transferring.{Transfers-done, Transfers-invalid, Transfers-refused}
+use Rattle.pcm_states.specs.declared.calls.Call.TheVariants as call
 use Rattle.dmix_c.proofs.playback.Playback.writei.Goals as goal
 
 -- why a client's state refuses a write

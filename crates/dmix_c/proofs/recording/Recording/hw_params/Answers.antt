@@ -1,12 +1,6 @@
-use Rattle.std.proofs.Common.{◌≡◌, ◌∙◌, refl, subst}
-use Rattle.std.specs.Prelude.{false}
-use Rattle.snd_base.specs.declared.geometry.Geometry.{Geometry}
+use Rattle.dmix_c.specs.Prelude.{refl, subst, ◌∙◌, ◌≡◌, false, Geometry, CaptureStream, configured_with, config_with, ReaderHasSetUp}
 use Rattle.snoop_table.specs.Readers.{seat_view}
-use Rattle.dsnoop_client.specs.declared.stream.CaptureStream.{CaptureStream}
-use Rattle.dsnoop_client.specs.Calls.{configured_with}
 use Rattle.dsnoop_client.specs.View.{CanUse}
-use Rattle.dmix_c.specs.Params.{config_with}
-use Rattle.dmix_c.specs.ReaderCalls.{ReaderHasSetUp}
 use Rattle.dmix_c.proofs.ReaderMaking.{CanUse-seen}
 use Rattle.dmix_c.proofs.SettingUp.{SetsUp-keeps}
 use Rattle.dmix_c.proofs.recording.Recording.hw_params.Goals as goal

@@ -1,7 +1,5 @@
-use Rattle.std.proofs.Common.{◌∙◌, ap, arith, refl, subst, sym}
+use Rattle.dmix_c.specs.Prelude.{ap, arith, refl, subst, sym, ◌∙◌, CaptureStream, new_reader}
 use Rattle.snoop_table.specs.Readers.{seat_view}
-use Rattle.dsnoop_client.specs.declared.stream.CaptureStream.{CaptureStream}
-use Rattle.dsnoop_client.specs.Calls.{new_reader}
 use Rattle.dsnoop_client.specs.View.{CanUse}
 use Rattle.dmix_c.proofs.recording.Recording.new.Goals as goal
 

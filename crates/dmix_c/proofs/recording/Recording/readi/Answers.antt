@@ -1,14 +1,7 @@
-use Rattle.std.proofs.Common.{◌∙◌, refl, sym}
-use Rattle.std.specs.Prelude.{Option}
-use Rattle.std.proofs.lemmas.Bool.{false≢true}
-use Rattle.snd_base.specs.declared.errors.PcmError.{PcmError}
-use Rattle.pcm_states.specs.declared.calls.Call.TheVariants as call
-use Rattle.pcm_stream.specs.declared.direction.Direction.TheVariants.{Capture}
-use Rattle.pcm_stream.specs.Status.{refusal_of}
-use Rattle.dmix_c.specs.declared.recording.Recording.{Recording}
-use Rattle.pcm_stream.specs.RefusalLaws.{passed-on, refusal-of_err, refusal-of_ok}
+use Rattle.dmix_c.specs.Prelude.{refl, sym, ◌∙◌, false≢true, Option, PcmError, Capture, passed-on, refusal-of_err, refusal-of_ok, refusal_of, Recording}
 use Rattle.dmix_c.proofs.Sourced.{KeepsSource-later, KeepsSource-same}
 use Rattle.dmix_c.proofs.Transferring.{Transfers-done, Transfers-invalid, Transfers-refused}
+use Rattle.pcm_states.specs.declared.calls.Call.TheVariants as call
 use Rattle.dmix_c.proofs.recording.Recording.readi.Goals as goal
 
 -- why a reader's state refuses a read

@@ -1,10 +1,6 @@
-use Rattle.std.proofs.Common.{◌≡◌, refl, subst}
-use Rattle.std.specs.Prelude.{false, OnOk}
-use Rattle.pcm_stream.specs.Setup.{Checks}
-use Rattle.sw_limits.specs.declared.params.SwParams.{SwParams}
+use Rattle.dmix_c.specs.Prelude.{refl, subst, ◌≡◌, false, OnOk, SwParams, Checks, CaptureStream}
 use Rattle.snoop_table.specs.Readers.{seat_view}
 use Rattle.dsnoop_client.specs.Calls.{with_params}
-use Rattle.dsnoop_client.specs.declared.stream.CaptureStream.{CaptureStream}
 use Rattle.dsnoop_client.specs.View.{CanUse}
 use Rattle.dmix_c.proofs.ReaderMaking.{CanUse-seen}
 use Rattle.dmix_c.proofs.SettingUp.{kept-by}

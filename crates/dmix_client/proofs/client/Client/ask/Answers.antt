@@ -1,16 +1,12 @@
-use Rattle.std.proofs.Common.{ℕ, refl, subst, sym, ◌≡◌, ◌∙◌}
-use Rattle.std.specs.Prelude.{false, true}
-use Rattle.pcm_states.specs.declared.calls.Call.TheVariants as call
-use Rattle.pcm_stream.specs.Status.{is_moving}
+use Rattle.dmix_client.specs.Prelude.{refl, subst, sym, ℕ, ◌∙◌, ◌≡◌, false, true, is_moving, Answered, with_number, AnySamples, Keeps}
 use Rattle.dmix_client.specs.Asked.{asked_number}
-use Rattle.dmix_client.specs.Calls.{Answered, with_number}
-use Rattle.dmix_client.specs.Growth.{AnySamples, Keeps}
-use Rattle.dmix_client.proofs.Caused.{caused-number}
 use Rattle.dmix_client.proofs.CallLaws.{admitted-by, admitted-call, both, refused-by, refused-keeping, resting-call, usable-inside}
+use Rattle.dmix_client.proofs.Caused.{caused-number}
 use Rattle.dmix_client.proofs.Going.{IsFrameStep-moving, OnOk-of, not-resting}
 use Rattle.dmix_client.proofs.Keeping.{Explains-by, Keeps-numbered, client}
 use Rattle.dmix_client.proofs.Looking.{number-moving, number-resting}
 use Rattle.dmix_client.proofs.Readiness.{IsReady-going, written-fits-going}
+use Rattle.pcm_states.specs.declared.calls.Call.TheVariants as call
 use Rattle.dmix_client.proofs.client.Client.ask.Goals as goal
 
 pub returns-in_err-admit : goal.returns-in_err-admit

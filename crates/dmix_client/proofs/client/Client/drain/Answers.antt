@@ -1,21 +1,12 @@
-use Rattle.std.proofs.Common.{◌≡◌, refl, subst, sym, ◌∙◌}
-use Rattle.std.specs.Prelude.{Bool, List, Result, false, true, ℤ, ◌&&◌}
-use Rattle.snd_base.specs.declared.errors.PcmError.{PcmError}
-use Rattle.mix_core.specs.declared.gate.Gate as gates
-use Rattle.mix_core.specs.declared.port.MixPort as mixport
-use Rattle.pcm_states.specs.declared.calls.Call.TheVariants as call
-use Rattle.pcm_states.specs.declared.states.State.{State}
-use Rattle.pcm_states.specs.declared.states.State.TheVariants.{Prepared}
-use Rattle.pcm_stream.specs.Status.{is_moving}
-use Rattle.dmix_client.specs.declared.stream.PlaybackStream.{PlaybackStream}
-use Rattle.dmix_client.specs.Calls.{has_frames, in_draining, is_prepared}
-use Rattle.dmix_client.specs.Course.{syncs}
-use Rattle.dmix_client.specs.Growth.{AnySamples, Keeps}
-use Rattle.dmix_client.specs.View.{IsSoundClient}
+use Rattle.dmix_client.specs.Prelude.{List, refl, subst, sym, ◌∙◌, ◌≡◌, Bool, false, Result, true, ℤ, ◌&&◌, PcmError, State, Prepared, is_moving}
+use Rattle.dmix_client.specs.Prelude.{PlaybackStream, has_frames, in_draining, is_prepared, syncs, AnySamples, Keeps, IsSoundClient}
 use Rattle.dmix_client.proofs.CallLaws.{admitted-by, admitted-call, both, refused-by, refused-keeping, usable-inside}
 use Rattle.dmix_client.proofs.Going.{OnOk-of, refusal_of-unstopped}
 use Rattle.dmix_client.proofs.Keeping.{IsSoundClient-dropped, client, dropped-kept, syncs-still}
 use Rattle.dmix_client.proofs.Sound.{IsSoundClient-status, configured-moving, set_up-moving}
+use Rattle.mix_core.specs.declared.gate.Gate as gates
+use Rattle.mix_core.specs.declared.port.MixPort as mixport
+use Rattle.pcm_states.specs.declared.calls.Call.TheVariants as call
 use Rattle.dmix_client.proofs.client.Client.drain.Goals as goal
 
 draining-sound : (c : PlaybackStream) (ring : List ℤ) → IsSoundClient c ring → is_moving c.status.state ≡ true → IsSoundClient (in_draining c) ring

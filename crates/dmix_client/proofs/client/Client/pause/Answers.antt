@@ -1,18 +1,11 @@
-use Rattle.std.proofs.Common.{◌≡◌, arith, refl, ℕ, ◌<◌}
-use Rattle.std.specs.Prelude.{Bool, Result, false, true}
-use Rattle.snd_base.specs.declared.errors.PcmError.{PcmError}
-use Rattle.snd_base.specs.Relations.{Composes}
-use Rattle.mix_core.specs.declared.gate.Gate as gates
-use Rattle.mix_core.specs.declared.port.MixPort as mixport
-use Rattle.pcm_states.specs.declared.calls.Call.{Call}
-use Rattle.pcm_states.specs.declared.calls.Call.TheVariants as call
-use Rattle.dmix_client.specs.Calls.{base_of, pending_of}
-use Rattle.dmix_client.specs.Growth.{AnySamples, Keeps}
-use Rattle.dmix_client.specs.Port.{CanUse}
-use Rattle.dmix_client.specs.View.{ClientView, IsSoundClient}
+use Rattle.dmix_client.specs.Prelude.{arith, refl, ℕ, ◌<◌, ◌≡◌, Bool, false, Result, true, PcmError, Composes, Call, base_of, pending_of, AnySamples, Keeps}
+use Rattle.dmix_client.specs.Prelude.{CanUse, ClientView, IsSoundClient}
 use Rattle.dmix_client.proofs.CallLaws.{Refusal, admitted-by, admitted-call, both, refused-by, refused-call, refused-keeps, sound-seen, usable-inside}
 use Rattle.dmix_client.proofs.Keeping.{IsSoundClient-paused, IsSoundClient-rebased, base-kept, client, paused-kept, rebased-kept, resume-paused}
 use Rattle.dmix_client.proofs.Looking.{rebases-takes, resumes-takes}
+use Rattle.mix_core.specs.declared.gate.Gate as gates
+use Rattle.mix_core.specs.declared.port.MixPort as mixport
+use Rattle.pcm_states.specs.declared.calls.Call.TheVariants as call
 use Rattle.dmix_client.proofs.client.Client.pause.Goals as goal
 
 unlike : (b : Bool) → b ≡ true → b ≡ false → ⊥

@@ -1,15 +1,10 @@
-use denote.Enum.Bare.{same_true}
+use Rattle.dmix_client.specs.Prelude.{ap, refl, rules, subst, sym, ℕ, ◌≡◌, ◌≤◌, false, Ok, true, same_true, Prepared, Running, Answered, is_running}
+use Rattle.dmix_client.specs.Prelude.{held_entries, without_frames, ClientView}
 use Rattle.pcm_states.specs.contracts.states.State.{the_type}
-use Rattle.std.proofs.Common.{rules, ◌≡◌, ◌≤◌, ℕ, ap, refl, subst, sym}
-use Rattle.std.specs.Prelude.{Ok, false, true}
-use Rattle.pcm_states.specs.declared.calls.Call.TheVariants as call
-use Rattle.pcm_states.specs.declared.states.State.TheVariants.{Prepared, Running}
-use Rattle.dmix_client.specs.Calls.{Answered, is_running}
-use Rattle.dmix_client.specs.Rewind.{held_entries, without_frames}
-use Rattle.dmix_client.specs.View.{ClientView}
 use Rattle.dmix_client.proofs.CallLaws.{Refusal, admitted-by, admitted-call, both, refused-by, refused-call, refused-keeps, sound-seen, usable-inside}
 use Rattle.dmix_client.proofs.Going.{OnOk-of, not-both}
 use Rattle.dmix_client.proofs.Rewinding.{KeepsBack-none, few-of, holds-by, without-kept}
+use Rattle.pcm_states.specs.declared.calls.Call.TheVariants as call
 use Rattle.dmix_client.proofs.client.Client.rewind.Goals as goal
 
 pub returns-in_err-admit : goal.returns-in_err-admit

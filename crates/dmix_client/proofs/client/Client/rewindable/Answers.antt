@@ -1,12 +1,8 @@
-use denote.Enum.Bare.{same_true}
+use Rattle.dmix_client.specs.Prelude.{ap, refl, rules, sym, ◌≡◌, false, true, same_true, Prepared, Running, is_running}
 use Rattle.pcm_states.specs.contracts.states.State.{the_type}
-use Rattle.std.proofs.Common.{rules, ◌≡◌, ap, refl, sym}
-use Rattle.std.specs.Prelude.{false, true}
-use Rattle.pcm_states.specs.declared.calls.Call.TheVariants as call
-use Rattle.pcm_states.specs.declared.states.State.TheVariants.{Prepared, Running}
-use Rattle.dmix_client.specs.Calls.{is_running}
 use Rattle.dmix_client.proofs.CallLaws.{admitted-by, admitted-call, refused-by, refused-keeping, resting-call, usable-inside}
 use Rattle.dmix_client.proofs.Going.{OnOk-of, not-both}
+use Rattle.pcm_states.specs.declared.calls.Call.TheVariants as call
 use Rattle.dmix_client.proofs.client.Client.rewindable.Goals as goal
 
 pub returns-in_err-admit : goal.returns-in_err-admit

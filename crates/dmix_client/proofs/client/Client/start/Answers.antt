@@ -1,24 +1,12 @@
-use Rattle.std.proofs.Common.{◌≡◌, ap, arith, refl, rules, subst, sym, ℕ, ◌<◌}
-use Rattle.std.proofs.lemmas.Bool.Decides.{nat_tests}
-use Rattle.std.specs.Prelude.{Bool, Err, List, None, Option, Some, false, if◌then◌else◌, nat_eq, true, ℤ}
-use Rattle.snd_base.specs.declared.errors.PcmError.{PcmError}
-use Rattle.snd_base.specs.declared.errors.PcmError.TheVariants as error
+use Rattle.dmix_client.specs.Prelude.{ap, arith, List, refl, rules, subst, sym, ℕ, ◌<◌, ◌≡◌, nat_tests, Bool, Err, false, if◌then◌else◌, nat_eq, None, Option}
+use Rattle.dmix_client.specs.Prelude.{Some, true, ℤ, PcmError, Empty, Cursor, State, Prepared, next_of, Playback, nothing_found, refusal_in, TakesAt}
+use Rattle.dmix_client.specs.Prelude.{PlaybackStream, Answered, in_state, with_outcome, start_course}
 use Rattle.snd_base.specs.declared.errors.PcmError.TheVariants.{Xrun}
-use Rattle.snd_base.specs.declared.errors.XrunWhy.TheVariants.{Empty}
-use Rattle.snd_base.specs.declared.places.Cursor.{Cursor}
+use Rattle.dmix_client.proofs.CallLaws.{admitted-by, admitted-call, both, refused-by, refused-keeping, resting-call, usable-inside}
+use Rattle.snd_base.specs.declared.errors.PcmError.TheVariants as error
 use Rattle.mix_core.specs.declared.gate.Gate as gates
 use Rattle.mix_core.specs.declared.port.MixPort as mixport
-use Rattle.course.specs.AtPort.{TakesAt}
-use Rattle.pcm_states.specs.Table.{next_of}
 use Rattle.pcm_states.specs.declared.calls.Call.TheVariants as call
-use Rattle.pcm_states.specs.declared.states.State.{State}
-use Rattle.pcm_states.specs.declared.states.State.TheVariants.{Prepared}
-use Rattle.pcm_stream.specs.Status.{nothing_found, refusal_in}
-use Rattle.pcm_stream.specs.declared.direction.Direction.TheVariants.{Playback}
-use Rattle.dmix_client.specs.declared.stream.PlaybackStream.{PlaybackStream}
-use Rattle.dmix_client.specs.Calls.{Answered, in_state, with_outcome}
-use Rattle.dmix_client.specs.Course.{start_course}
-use Rattle.dmix_client.proofs.CallLaws.{admitted-by, admitted-call, both, refused-by, refused-keeping, resting-call, usable-inside}
 use Rattle.dmix_client.proofs.client.Client.start.Goals as goal
 
 written-none : (n : ℕ) → n ≡ 0 → 0 < n → ⊥

@@ -1,9 +1,7 @@
-use Rattle.std.proofs.Common.{refl, sym, ◌≡◌, ◌∙◌}
-use Rattle.std.specs.Prelude.{false, true}
-use Rattle.pcm_states.specs.declared.calls.Call.TheVariants as call
-use Rattle.pcm_stream.specs.Status.{is_moving}
+use Rattle.dmix_client.specs.Prelude.{refl, sym, ◌∙◌, ◌≡◌, false, true, is_moving}
 use Rattle.dmix_client.proofs.CallLaws.{admitted-by, admitted-call, refused-by, refused-keeping, resting-call, usable-inside}
 use Rattle.dmix_client.proofs.Going.{IsFrameStep-moving, OnOk-of, not-resting}
+use Rattle.pcm_states.specs.declared.calls.Call.TheVariants as call
 use Rattle.dmix_client.proofs.client.Client.sync.Goals as goal
 
 pub returns-in_err-admit : goal.returns-in_err-admit

@@ -1,15 +1,10 @@
-use denote.Enum.Bare.{same_true}
+use Rattle.dmix_client.specs.Prelude.{ap, arith, refl, rules, subst, sym, ℕ, ◌≡◌, true, same_true, Prepared, Running, Answered, is_running, starts_with}
 use Rattle.pcm_states.specs.contracts.states.State.{the_type}
-use Rattle.std.proofs.Common.{rules, ◌≡◌, ℕ, ap, arith, refl, subst, sym}
-use Rattle.std.specs.Prelude.{true}
-use Rattle.pcm_states.specs.declared.states.State.TheVariants.{Prepared, Running}
-use Rattle.pcm_states.specs.declared.calls.Call.TheVariants as call
-use Rattle.dmix_client.specs.Calls.{Answered, is_running}
-use Rattle.dmix_client.specs.Writes.{starts_with}
 use Rattle.dmix_client.proofs.CallLaws.{Refusal, admitted-by, admitted-takes, both, never-admitted, never-refused, refused-answer, refused-by, refused-keeps, refused-takes, sound-seen, usable-inside}
 use Rattle.dmix_client.proofs.Going.{OnOk-of, not-both}
 use Rattle.dmix_client.proofs.Looking.{write-prepared, write-running}
 use Rattle.dmix_client.proofs.Storing.{take-written}
+use Rattle.pcm_states.specs.declared.calls.Call.TheVariants as call
 use Rattle.dmix_client.proofs.client.Client.writei.Goals as goal
 
 pub returns-in_err-admit : goal.returns-in_err-admit

@@ -1,18 +1,12 @@
-use Rattle.std.proofs.Common.{◌≡◌, ◌∙◌, ℕ, ap, refl, subst, sym}
-use Rattle.std.specs.Prelude.{Err, Ok, false, true}
+use Rattle.dsnoop_client.specs.Prelude.{ap, refl, subst, sym, ℕ, ◌∙◌, ◌≡◌, Err, false, Ok, true, CaptureStream, Answered, with_avail, syncs, Keeps, is_running}
 use Rattle.snd_base.specs.declared.errors.PcmError.TheVariants.{Stopped}
-use Rattle.mix_core.specs.declared.gate.Gate as gates
-use Rattle.pcm_states.specs.declared.calls.Call.TheVariants as call
-use Rattle.snoop_core.specs.declared.port.SnoopPort as snoopport
-use Rattle.dsnoop_client.specs.declared.stream.CaptureStream.{CaptureStream}
-use Rattle.dsnoop_client.specs.Calls.{Answered, with_avail}
-use Rattle.dsnoop_client.specs.Course.{syncs}
-use Rattle.dsnoop_client.specs.Port.{Keeps}
-use Rattle.dsnoop_client.specs.View.{is_running}
 use Rattle.dsnoop_client.proofs.CallLaws.{admitted-by, admitted-call, both, refused-by, refused-call, resting-call, usable-inside}
 use Rattle.dsnoop_client.proofs.Explaining.{why-avail}
 use Rattle.dsnoop_client.proofs.Loading.{counts-by}
 use Rattle.dsnoop_client.proofs.Refusing.{OnOk-of, not-both, running-by}
+use Rattle.mix_core.specs.declared.gate.Gate as gates
+use Rattle.pcm_states.specs.declared.calls.Call.TheVariants as call
+use Rattle.snoop_core.specs.declared.port.SnoopPort as snoopport
 use Rattle.dsnoop_client.proofs.reader.Reader.avail_update.Goals as goal
 
 module _ {S T : Type 0} (P : snoopport.Ghosts S) (G : gates.Ghosts T) where

@@ -1,9 +1,7 @@
-use Rattle.std.proofs.Common.{◌≡◌, ◌∙◌, refl, sym}
-use Rattle.std.specs.Prelude.{false, true}
-use Rattle.pcm_states.specs.declared.calls.Call.TheVariants as call
-use Rattle.dsnoop_client.specs.View.{is_running}
+use Rattle.dsnoop_client.specs.Prelude.{refl, sym, ◌∙◌, ◌≡◌, false, true, is_running}
 use Rattle.dsnoop_client.proofs.CallLaws.{admitted-by, admitted-call, refused-by, refused-call, resting-call, usable-inside}
 use Rattle.dsnoop_client.proofs.Refusing.{OnOk-of, not-both, running-by}
+use Rattle.pcm_states.specs.declared.calls.Call.TheVariants as call
 use Rattle.dsnoop_client.proofs.reader.Reader.sync.Goals as goal
 
 pub returns-in_err-admit : goal.returns-in_err-admit

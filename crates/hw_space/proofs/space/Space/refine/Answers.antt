@@ -1,9 +1,5 @@
 -- Where nothing is left, nothing was, and the space is as before.
-use Rattle.std.proofs.Common.{◌≡◌, refl, subst}
-use Rattle.std.specs.Prelude.{IsTrue}
-use Rattle.std.proofs.lemmas.Result.{err_from_is_err_and}
-use Rattle.hw_space.specs.declared.param_box.ParamBox.{ParamBox}
-use Rattle.hw_space.specs.Settled.{IsLeft, IsVoid}
+use Rattle.hw_space.specs.Prelude.{subst, err_from_is_err_and, IsTrue, refl, ◌≡◌, ParamBox, IsLeft, IsVoid}
 use Rattle.hw_space.proofs.Results.{IfOk-err, Leaves-err, OnErr-always}
 use Rattle.hw_space.proofs.StepLaws.{IsLeft-step, changed-IsBoxStep}
 use Rattle.hw_space.proofs.space.Space.refine.Goals as goal

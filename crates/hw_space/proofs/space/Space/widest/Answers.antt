@@ -1,7 +1,5 @@
 -- The configuration of one channel with the slave's period and ring is in it.
-use Rattle.std.proofs.Common.{arith, sym, subst}
-use Rattle.hw_space.specs.declared.param_box.ParamBox.{ParamBox}
-use Rattle.hw_space.specs.Settled.{LiesInBox}
+use Rattle.hw_space.specs.Prelude.{arith, subst, sym, ParamBox, LiesInBox}
 use Rattle.hw_space.specs.WidestLaws.{slave_configuration, slave-IsExact, widest-LiesInBox}
 use Rattle.hw_space.proofs.space.Space.widest.Goals as goal
 

@@ -1,6 +1,4 @@
-use Rattle.std.proofs.Common.{ℕ, refl, subst, sym}
-use Rattle.std.specs.Option.{option_copied}
-use Rattle.lab_card.specs.Room.{KeepsRoom}
+use Rattle.lab_card.specs.Prelude.{refl, subst, sym, ℕ, option_copied, KeepsRoom}
 use Rattle.lab_card.proofs.Rooms.{KeepsRoom-none}
 use Rattle.lab_card.proofs.Running.{CardDid-other}
 use Rattle.lab_card.proofs.card.CardActor.do_op.Goals as goal

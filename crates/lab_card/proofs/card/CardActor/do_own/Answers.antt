@@ -1,8 +1,4 @@
-use Rattle.std.proofs.Common.{sym, subst, ◌∙◌, List}
-use Rattle.std.specs.Option.{option_copied}
-use Rattle.lab_lines.specs.declared.line.Op.{Op}
-use Rattle.lab_card.specs.CardLines.{CardPart}
-use Rattle.lab_card.specs.MovesLaws.{CardPart-none}
+use Rattle.lab_card.specs.Prelude.{List, subst, sym, ◌∙◌, option_copied, Op, CardPart, CardPart-none}
 use Rattle.lab_card.proofs.OwnLines.{ops-other}
 use Rattle.lab_card.proofs.card.CardActor.do_own.Goals as goal
 

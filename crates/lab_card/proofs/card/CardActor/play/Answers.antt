@@ -1,14 +1,5 @@
-use Rattle.std.proofs.Common.{◌≡◌, ◌<◌, ℕ, ◌+◌, ◌-◌, arith, inl, inr, refl, subst, ◌∙◌}
-use Rattle.std.specs.Prelude.{Option, false, ◌⊎◌}
-use Rattle.std.specs.Option.{option_copied}
-use Rattle.wav_io.specs.Sound.{Sound}
-use Rattle.card_player.specs.Plays.{periods_to, positions_of}
-use Rattle.card_sim.specs.Runs.{period_of}
-use Rattle.lab_card.specs.declared.card.CardActor.{CardActor}
-use Rattle.lab_card.specs.CardLines.{CardDid}
-use Rattle.lab_card.specs.Moves.{frame_of_card}
-use Rattle.lab_card.specs.MovesLaws.{CardDid-none}
-use Rattle.lab_card.specs.Room.{KeepsRoom}
+use Rattle.lab_card.specs.Prelude.{arith, inl, inr, refl, subst, ℕ, ◌+◌, ◌-◌, ◌<◌, ◌∙◌, ◌≡◌, option_copied, false, Option, ◌⊎◌, periods_to, positions_of}
+use Rattle.lab_card.specs.Prelude.{period_of, Sound, CardActor, CardDid, frame_of_card, CardDid-none, KeepsRoom}
 use Rattle.lab_card.proofs.Rooms.{HasRoom-after, KeepsRoom-joined, KeepsRoom-none}
 use Rattle.lab_card.proofs.Running.{play-end, play-more}
 use Rattle.lab_card.proofs.card.CardActor.play.Goals as goal

@@ -1,11 +1,4 @@
-use Rattle.std.proofs.Common.{◌≡◌, ◌<◌, ◌≤◌, ◌-◌, ◌+◌, ◌%◌}
-use Rattle.std.specs.Prelude.{◌⊎◌, false}
-use Rattle.std.specs.Option.{option_copied}
-use Rattle.card_player.specs.Plays.{periods_to}
-use Rattle.card_sim.specs.Runs.{period_of}
-use Rattle.lab_card.specs.CardLines.{CardDid}
-use Rattle.lab_card.specs.Moves.{frame_of_card}
-use Rattle.lab_card.specs.Room.{KeepsRoom}
+use Rattle.lab_card.specs.Prelude.{◌%◌, ◌+◌, ◌-◌, ◌<◌, ◌≡◌, ◌≤◌, option_copied, false, ◌⊎◌, periods_to, period_of, CardDid, frame_of_card, KeepsRoom}
 use Rattle.lab_card.proofs.card.CardActor.play.Given as goal
 
 abbrev pub invariant-loop-piece : goal.invariant-loop-piece

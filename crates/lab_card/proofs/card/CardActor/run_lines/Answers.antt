@@ -1,18 +1,9 @@
-use Rattle.std.proofs.Common.{◌<◌, ℕ, ◌+◌, List, ap, arith, get_or, length, subst, sym, take}
-use Rattle.std.proofs.lemmas.List.{get_or_default}
-use Rattle.std.specs.Option.{option_copied}
-use Rattle.std.specs.Prelude.{Option, [], ◌∷◌}
-use Rattle.snd_base.specs.Places.{end_frame}
-use Rattle.wav_io.specs.Sound.{Sound}
-use Rattle.lab_lines.specs.declared.line.Actor.TheVariants as actor
-use Rattle.lab_lines.specs.declared.line.Line.{Line}
-use Rattle.lab_lines.specs.declared.line.Op.{Op}
-use Rattle.lab_lines.specs.declared.line.Op.TheVariants as op
-use Rattle.lab_card.specs.CardLines.{CardPart, frames_by}
-use Rattle.lab_card.specs.MovesLaws.{CardPart-joined}
-use Rattle.lab_card.specs.Room.{KeepsRoom}
+use Rattle.lab_card.specs.Prelude.{ap, arith, get_or, length, List, subst, sym, take, ℕ, [], ◌+◌, ◌<◌, get_or_default, option_copied, Option, ◌∷◌, end_frame}
+use Rattle.lab_card.specs.Prelude.{Sound, Line, Op, CardPart, frames_by, CardPart-joined, KeepsRoom}
 use Rattle.lab_card.proofs.OwnLines.{count-most, count-next, frames-most, frames-next, ops, ops-next}
 use Rattle.lab_card.proofs.Rooms.{HasRoom-after, KeepsRoom-joined}
+use Rattle.lab_lines.specs.declared.line.Actor.TheVariants as actor
+use Rattle.lab_lines.specs.declared.line.Op.TheVariants as op
 use Rattle.lab_card.proofs.card.CardActor.run_lines.Goals as goal
 
 pub do_own-requires-clause-fits : goal.do_own-requires-clause-fits

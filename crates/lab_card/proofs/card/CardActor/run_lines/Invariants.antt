@@ -1,9 +1,4 @@
-use Rattle.std.proofs.Common.{length, take}
-use Rattle.std.specs.Option.{option_copied}
-use Rattle.lab_lines.specs.Script.{is_of_card}
-use Rattle.lab_run.specs.Phases.{ops_by}
-use Rattle.lab_card.specs.CardLines.{CardPart, frames_by}
-use Rattle.lab_card.specs.Room.{KeepsRoom}
+use Rattle.lab_card.specs.Prelude.{length, take, option_copied, is_of_card, ops_by, CardPart, frames_by, KeepsRoom}
 use Rattle.lab_card.proofs.card.CardActor.run_lines.Given as goal
 
 abbrev pub invariant-loop-index : goal.invariant-loop-index

@@ -1,15 +1,7 @@
-use Rattle.std.proofs.Common.{◌≡◌, ℕ, ℤ, ◌+◌, ◌-◌, ◌*◌, List, length, take, drop, ap, arith, ◌∙◌}
-use Rattle.std.proofs.lemmas.List.{length-append, length-drop}
-use borrow.Rule.Slice.PartMut.{post_of}
-use Rattle.std.specs.Option.{option_copied}
+use Rattle.lab_card.specs.Prelude.{ap, arith, drop, length, List, take, ℕ, ℤ, ◌*◌, ◌++◌, ◌+◌, ◌-◌, ◌∙◌, ◌≡◌, length-append, length-drop, option_copied, Option}
+use Rattle.lab_card.specs.Prelude.{pos, replicate, post_of, Geometry, first_frame, Sound, CardActor, captured_frames, frame_of_card, frames_since_first}
+use Rattle.lab_card.specs.Prelude.{geometry_of_card}
 use Rattle.std.specs.Vec.{with_items}
-use Rattle.std.specs.Prelude.{replicate, pos, Option, ◌++◌}
-use Rattle.snd_base.specs.declared.geometry.Geometry.{Geometry}
-use Rattle.snd_base.specs.Places.{first_frame}
-use Rattle.wav_io.specs.Sound.{Sound}
-use Rattle.lab_card.specs.declared.card.CardActor.{CardActor}
-use Rattle.lab_card.specs.Captures.{captured_frames}
-use Rattle.lab_card.specs.Moves.{frame_of_card, frames_since_first, geometry_of_card}
 use Rattle.lab_card.proofs.Running.{CardDid-run, last-part, last-written, refilled, whole-frames}
 use Rattle.lab_card.proofs.card.CardActor.run_owned.Goals as goal
 

@@ -1,6 +1,4 @@
-use Rattle.std.proofs.Common.{sym}
-use Rattle.std.proofs.lemmas.List.Sorted.{list_any-IsPermutation}
-use Rattle.lab_check.specs.Spans.{is_in_span}
+use Rattle.lab_check.specs.Prelude.{sym, list_any-IsPermutation, is_in_span}
 use Rattle.lab_check.proofs.spans.SpanIndex.new.Goals as goal
 
 pub returns : goal.returns

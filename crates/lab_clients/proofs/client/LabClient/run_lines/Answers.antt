@@ -1,9 +1,5 @@
-use Rattle.std.specs.Prelude.{Option, Some, IfSome}
-use Rattle.std.proofs.Common.{refl, subst, sym, ◌∙◌}
-use Rattle.lab_clients.specs.declared.open_client.OpenClient.{OpenClient}
-use Rattle.lab_clients.specs.Lines.{IsReady}
-use Rattle.lab_clients.specs.OneClient.{AllRefused, GoesOrRests, HasRoomBy, number_of}
-use Rattle.lab_clients.specs.OpenClient.{HasRun, IsOpenReady}
+use Rattle.lab_clients.specs.Prelude.{refl, subst, sym, ◌∙◌, IfSome, Option, Some, OpenClient, IsReady, AllRefused, GoesOrRests, HasRoomBy, number_of, HasRun}
+use Rattle.lab_clients.specs.Prelude.{IsOpenReady}
 use Rattle.lab_clients.specs.SeatPort.{seat_port}
 use Rattle.lab_clients.proofs.client.LabClient.run_lines.Goals as goal
 

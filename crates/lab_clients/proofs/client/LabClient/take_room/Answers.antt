@@ -1,10 +1,6 @@
-use Rattle.std.proofs.Common.{ℕ, sym, subst}
-use Rattle.lab_lines.specs.declared.line.Actor.TheVariants as actor
-use Rattle.lab_actors.specs.Room.{HasSpace}
-use Rattle.lab_actors.specs.Lines.{line_count}
-use Rattle.lab_clients.specs.OneClient.{HasRoomAt}
-use Rattle.lab_clients.specs.declared.open_client.OpenClient.{OpenClient}
+use Rattle.lab_clients.specs.Prelude.{subst, sym, ℕ, line_count, HasSpace, OpenClient, HasRoomAt}
 use Rattle.lab_clients.proofs.Results.{OnOk-both}
+use Rattle.lab_lines.specs.declared.line.Actor.TheVariants as actor
 use Rattle.lab_clients.proofs.client.LabClient.take_room.Goals as goal
 
 pub returns-in-Some-clause-room : goal.returns-in-Some-clause-room

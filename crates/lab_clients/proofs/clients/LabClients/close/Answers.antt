@@ -1,13 +1,7 @@
-use Rattle.std.proofs.Common.{◌≡◌, true, false, arith, sym, subst}
-use Rattle.std.proofs.lemmas.Bool.Decides.{nat_tests}
-use Rattle.lab_lines.specs.declared.line.Actor.TheVariants as actor
-use Rattle.lab_lines.specs.declared.row.Row.{Row}
-use Rattle.lab_run.specs.Items.{held_of}
-use Rattle.lab_run.specs.Stage.{after_close}
-use Rattle.lab_clients.specs.OneClient.{is_open}
-use Rattle.lab_clients.specs.AtStage.{AreAfter, clients_of}
+use Rattle.lab_clients.specs.Prelude.{arith, subst, sym, ◌≡◌, nat_tests, false, true, Row, held_of, after_close, AreAfter, clients_of, is_open}
 use Rattle.lab_clients.proofs.ClosingLaws.{AreAfter-closed, AreAfter-closed_already}
 use Rattle.lab_clients.proofs.OpenAt.{open_at-some, open_of-none}
+use Rattle.lab_lines.specs.declared.line.Actor.TheVariants as actor
 use Rattle.lab_clients.proofs.clients.LabClients.close.Goals as goal
 
 pub returns-then-not-is_open-clause-after : goal.returns-then-not-is_open-clause-after

@@ -1,12 +1,9 @@
-use Rattle.std.proofs.Common.{◌≡◌, ◌<◌, ◌≤◌, true, false, length, arith, refl, ◌∙◌}
-use Rattle.std.proofs.lemmas.Bool.Decides.{nat_tests}
-use Rattle.lab_clients.specs.OneClient.{is_open}
-use Rattle.lab_clients.specs.AtStage.{clients_of, places_of}
-use Rattle.lab_clients.specs.Exchanged.{IsSameCard-joined, IsSameCard-same}
+use Rattle.lab_clients.specs.Prelude.{arith, length, refl, ◌∙◌, ◌≡◌, ◌≤◌, nat_tests, false, true, ◌<◌, clients_of, places_of, IsSameCard-same, is_open}
+use Rattle.lab_clients.specs.Exchanged.{IsSameCard-joined}
 use Rattle.lab_clients.proofs.EndLaws.{AllClosed-more, AllClosed-past, AllClosed-still, AreOfRun-ended, HasEnded-more, HasEnded-none}
 use Rattle.lab_clients.proofs.OpenAt.{open_at-none, open_at-some}
-use Rattle.lab_clients.proofs.clients.LabClients.close_all.Goals as goal
 use Rattle.lab_clients.proofs.clients.LabClients.close_all.Goals.{then-is_open, else-is_open}
+use Rattle.lab_clients.proofs.clients.LabClients.close_all.Goals as goal
 
 pub loop-number-init : goal.loop-number-init
 loop-number-init c = record {

@@ -1,12 +1,5 @@
-use Rattle.std.proofs.Common.{◌≡◌, ℕ, ◌<◌, List, None, length}
-use Rattle.lab_run.specs.Client.{Client}
-use Rattle.lab_run.specs.Items.{Held}
-use Rattle.lab_run.specs.Rules.{AtPort}
-use Rattle.lab_run.specs.Stage.{Session}
-use Rattle.lab_places.specs.Held.{IsSameCard}
-use Rattle.lab_clients.specs.AtStage.{AreAt, clients_of, places_of}
-use Rattle.lab_clients.specs.End.{HasEnded}
-use Rattle.lab_clients.specs.Opening.{open_at}
+use Rattle.lab_clients.specs.Prelude.{length, List, ℕ, ◌≡◌, None, ◌<◌, Client, Held, AtPort, Session, IsSameCard, AreAt, clients_of, places_of, HasEnded}
+use Rattle.lab_clients.specs.Prelude.{open_at}
 use Rattle.lab_clients.proofs.clients.LabClients.close_all.Given as goal
 
 abbrev pub invariant-loop-number : goal.invariant-loop-number

@@ -1,6 +1,4 @@
-use Rattle.std.proofs.Common.{IsSome, arith, refl, subst}
-use Rattle.std.specs.Vec.{with_item}
-use Rattle.lab_clients.specs.AtStage.{clients_of}
+use Rattle.lab_clients.specs.Prelude.{arith, IsSome, refl, subst, with_item, clients_of}
 use Rattle.lab_clients.proofs.ClosingLaws.{AreAt-closed, CanClose-closing, Closing-some, OneRing-closing}
 use Rattle.lab_clients.proofs.OpenAt.{IsClosedAt-set, open_at-inside, open_at-read}
 use Rattle.lab_clients.proofs.clients.LabClients.give_back.Goals as goal

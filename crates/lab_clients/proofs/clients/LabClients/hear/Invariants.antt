@@ -1,8 +1,5 @@
-use Rattle.std.proofs.Common.{◌≡◌}
-use Rattle.lab_actors.specs.Walks.{HasWalked}
+use Rattle.lab_clients.specs.Prelude.{◌≡◌, HasWalked, clients_of, places_of, IsHeardBy}
 use Rattle.lab_card.specs.Meets.{IsSameCard}
-use Rattle.lab_clients.specs.AtStage.{clients_of, places_of}
-use Rattle.lab_clients.specs.Steps.{IsHeardBy}
 use Rattle.lab_clients.proofs.clients.LabClients.hear.Given as goal
 
 abbrev pub invariant-loop-index : goal.invariant-loop-index

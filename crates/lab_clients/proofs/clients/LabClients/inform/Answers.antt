@@ -1,13 +1,5 @@
-use Rattle.std.proofs.Common.{arith, subst, sym}
-use Rattle.sum_table.specs.Players.{player_key, player_ring}
-use Rattle.lab_actors.specs.Walks.{AreEach-ended, HasWalked-read, HasWalked-still}
-use Rattle.lab_card.specs.MeetLaws.{IsSameCard-joined}
-use Rattle.lab_card.specs.Moves.{seat_of_card}
-use Rattle.lab_clients.specs.declared.client.LabClient.{LabClient}
-use Rattle.lab_clients.specs.AtStage.{clients_of}
-use Rattle.lab_clients.specs.OneClient.{IsOfCard}
-use Rattle.lab_clients.specs.OneClientLaws.{IsOfCard-ring, IsOfRing-card}
-use Rattle.lab_clients.specs.Steps.{IsInformedBy}
+use Rattle.lab_clients.specs.Prelude.{arith, subst, sym, player_key, player_ring, IsSameCard-joined, seat_of_card, AreEach-ended, HasWalked-read}
+use Rattle.lab_clients.specs.Prelude.{HasWalked-still, LabClient, clients_of, IsOfCard, IsOfCard-ring, IsOfRing-card, IsInformedBy}
 use Rattle.lab_clients.proofs.clients.LabClients.inform.Goals as goal
 
 pub inform-requires : goal.inform-requires

@@ -1,7 +1,5 @@
-use Rattle.std.proofs.Common.{◌∙◌, ap, length, subst, sym}
+use Rattle.lab_clients.specs.Prelude.{ap, length, subst, sym, ◌∙◌, free_seats, laid_by_all, AreFree}
 use Rattle.lobby.specs.declared.lobby.Lobby.{Lobby}
-use Rattle.lobby.specs.Lobbies.{free_seats, laid_by_all}
-use Rattle.lobby.specs.Seats.{AreFree}
 use Rattle.lab_clients.proofs.EndLaws.{AreFree-closed, IsPlacedAll-ended, places-ended}
 use Rattle.lab_clients.proofs.clients.LabClients.into_seat.Goals as goal
 

@@ -1,17 +1,8 @@
-use Rattle.std.specs.Prelude.{◌≡◌, ℕ, Option, slice_set, unwrap_or}
-use Rattle.std.proofs.Common.{sym, ap, subst, ◌∙◌}
-use Rattle.std.proofs.lemmas.List.{get_or-set_same}
+use Rattle.lab_clients.specs.Prelude.{ap, subst, sym, ℕ, ◌∙◌, ◌≡◌, get_or-set_same, Option, slice_set, unwrap_or, opened_client, next_place, AreEach-set_same}
+use Rattle.lab_clients.specs.Prelude.{LabClient, clients_of, places_of, HasKeptLast, HasKeptLastAt, IsMadeFor, IsSameWithRows, IsSameWithRows-none}
 use Rattle.std.proofs.lemmas.Result.{IfOk-weaker}
-use Rattle.lab_run.specs.Stage.{opened_client}
-use Rattle.lab_clients.specs.declared.client.LabClient.{LabClient}
-use Rattle.lab_clients.specs.OneOpening.{HasKeptLast}
-use Rattle.lab_places.specs.Held.{next_place}
-use Rattle.lab_clients.specs.AtStage.{clients_of, places_of}
-use Rattle.lab_clients.specs.Opening.{HasKeptLastAt, IsMadeFor}
-use Rattle.lab_clients.specs.Steps.{IsSameWithRows, IsSameWithRows-none}
-use Rattle.lab_actors.specs.EachLaws.{AreEach-set_same}
-use Rattle.lab_clients.proofs.Results.{OnOk-more}
 use Rattle.lab_clients.proofs.OpenAt.{open_at-read, open_at-set_same}
+use Rattle.lab_clients.proofs.Results.{OnOk-more}
 use Rattle.lab_clients.proofs.clients.LabClients.make_stream.Goals as goal
 
 pub make_stream-requires-clause-closed : goal.make_stream-requires-clause-closed

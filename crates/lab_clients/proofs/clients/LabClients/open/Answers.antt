@@ -1,13 +1,8 @@
-use Rattle.std.proofs.Common.{◌≡◌, true, false, arith, ap, sym, subst, ◌∙◌}
+use Rattle.lab_clients.specs.Prelude.{ap, arith, subst, sym, ◌∙◌, ◌≡◌, nat_tests, false, true, Row, after_open, AreAfter, clients_of, is_open}
 use Rattle.std.specs.Option.{option_copied}
-use Rattle.std.proofs.lemmas.Bool.Decides.{nat_tests}
-use Rattle.lab_clients.specs.OneClient.{is_open}
-use Rattle.lab_lines.specs.declared.line.Actor.TheVariants as actor
-use Rattle.lab_lines.specs.declared.row.Row.{Row}
-use Rattle.lab_run.specs.Stage.{after_open}
-use Rattle.lab_clients.specs.AtStage.{AreAfter, clients_of}
 use Rattle.lab_clients.proofs.OpenAt.{open_at-none, open_of-none}
 use Rattle.lab_clients.proofs.OpeningLaws.{AreAfter-nothing, AreAfter-open_already}
+use Rattle.lab_lines.specs.declared.line.Actor.TheVariants as actor
 use Rattle.lab_clients.proofs.clients.LabClients.open.Goals as goal
 
 pub returns-then-is_open-clause-after : goal.returns-then-is_open-clause-after

@@ -1,19 +1,9 @@
-use Rattle.std.proofs.Common.{◌≡◌, Err, List, Ok, ℕ, ap, refl, sym, subst, ◌∙◌}
-use Rattle.std.specs.Vec.{with_item}
-use Rattle.sum_table.specs.declared.seats.mix.MixSeat.{MixSeat}
+use Rattle.lab_clients.specs.Prelude.{ap, List, refl, subst, sym, ℕ, ◌∙◌, ◌≡◌, Err, Ok, with_item, MixSeat, position_of_player, member_of, Row, held_of}
+use Rattle.lab_clients.specs.Prelude.{after_open, opened_client, Setup, Opens, share_of, LabClients, AreAfter, clients_of, HasKeptLast, HasOpened}
 use Rattle.sum_table.specs.declared.view.Key.{Key}
-use Rattle.sum_table.specs.Players.{position_of_player}
-use Rattle.sum_table.specs.Seats.{member_of}
-use Rattle.lab_lines.specs.declared.line.Actor.TheVariants as actor
-use Rattle.lab_lines.specs.declared.row.Row.{Row}
-use Rattle.lab_run.specs.Items.{held_of}
-use Rattle.lab_run.specs.Stage.{Setup, after_open, opened_client}
-use Rattle.lab_places.specs.Held.{Opens, share_of}
-use Rattle.lab_clients.specs.OneOpening.{HasKeptLast, HasOpened}
-use Rattle.lab_clients.specs.declared.clients.LabClients.{LabClients}
-use Rattle.lab_clients.specs.AtStage.{AreAfter, clients_of}
 use Rattle.lab_clients.proofs.OpenAt.{open_at-read}
 use Rattle.lab_clients.proofs.OpeningLaws.{AreAfter-opened, AreAfter-refused}
+use Rattle.lab_lines.specs.declared.line.Actor.TheVariants as actor
 use Rattle.lab_clients.proofs.clients.LabClients.open_made.Goals as goal
 
 pub returns-in-Err-clause-after : goal.returns-in-Err-clause-after

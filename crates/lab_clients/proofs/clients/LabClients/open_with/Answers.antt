@@ -1,18 +1,9 @@
-use Rattle.std.proofs.Common.{sym, subst}
-use Rattle.std.specs.Prelude.{ℕ, ◌<◌}
-use Rattle.sum_table.specs.declared.view.Key.{Key}
-use Rattle.sum_table.specs.Joins.{OneRing}
-use Rattle.sum_table.specs.Players.{player_geometry, player_key, player_ring, position_of_player}
+use Rattle.lab_clients.specs.Prelude.{subst, sym, ℕ, ◌<◌, OneRing, player_geometry, player_key, player_ring, position_of_player, PlaybackStream, held_of}
+use Rattle.lab_clients.specs.Prelude.{IsSameCard, key_of_places, next_place, ring_of_places, AreEach-length, clients_of, places_of, IsMadeFor, IsSameWithRows}
 use Rattle.sum_table.specs.declared.seats.player.PlayerSeat.{PlayerSeat}
-use Rattle.dmix_client.specs.declared.stream.PlaybackStream.{PlaybackStream}
-use Rattle.lab_run.specs.Items.{held_of}
+use Rattle.sum_table.specs.declared.view.Key.{Key}
 use Rattle.lab_actors.specs.Usable.{IsUsable}
-use Rattle.lab_places.specs.Held.{IsSameCard, key_of_places, next_place, ring_of_places}
-use Rattle.lab_clients.specs.AtStage.{clients_of, places_of}
-use Rattle.lab_clients.specs.Opening.{IsMadeFor}
 use Rattle.lab_clients.specs.Same.{AreAt-same}
-use Rattle.lab_clients.specs.Steps.{IsSameWithRows}
-use Rattle.lab_actors.specs.Walks.{AreEach-length}
 use Rattle.lab_clients.proofs.Results.{OnErr-always}
 use Rattle.lab_clients.proofs.clients.LabClients.open_with.Goals as goal
 

@@ -1,8 +1,6 @@
-use Rattle.std.proofs.Common.{arith, refl, ◌∙◌}
-use Rattle.lab_clients.specs.AtStage.{places_of}
-use Rattle.lab_clients.specs.Reaped.{held_to, reaped_to}
+use Rattle.lab_clients.specs.Prelude.{arith, refl, ◌∙◌, places_of, IsSameCard-same, held_to, reaped_to}
+use Rattle.lab_clients.specs.Exchanged.{IsSameCard-joined}
 use Rattle.lab_clients.proofs.ReapLaws.{AreAt-end, AreDone-next, length-done}
-use Rattle.lab_clients.specs.Exchanged.{IsSameCard-joined, IsSameCard-same}
 use Rattle.lab_clients.proofs.clients.LabClients.reap.Goals as goal
 
 pub loop-number-init : goal.loop-number-init

@@ -1,11 +1,4 @@
-use Rattle.std.specs.Prelude.{◌≡◌, List, length}
-use Rattle.lab_run.specs.Client.{Client}
-use Rattle.lab_run.specs.Items.{Held}
-use Rattle.lab_run.specs.Rules.{AtPort}
-use Rattle.lab_run.specs.Stage.{Session}
-use Rattle.lab_places.specs.Held.{IsSameCard}
-use Rattle.lab_clients.specs.AtStage.{AreDone, clients_of, places_of}
-use Rattle.lab_clients.specs.Reaped.{held_to, reaped_to}
+use Rattle.lab_clients.specs.Prelude.{length, List, ◌≡◌, Client, Held, AtPort, Session, IsSameCard, AreDone, clients_of, places_of, held_to, reaped_to}
 use Rattle.lab_clients.proofs.clients.LabClients.reap.Given as goal
 
 abbrev pub invariant-loop-number : goal.invariant-loop-number

@@ -1,6 +1,4 @@
-use Rattle.std.proofs.Common.{IsSome, Option, subst, sym, ◌∙◌}
-use Rattle.lab_clients.specs.declared.open_client.OpenClient.{OpenClient}
-use Rattle.lab_clients.specs.AtStage.{clients_of}
+use Rattle.lab_clients.specs.Prelude.{IsSome, subst, sym, ◌∙◌, Option, OpenClient, clients_of}
 use Rattle.lab_clients.proofs.OpenAt.{open_at-read}
 use Rattle.lab_clients.proofs.ReapLaws.{AreDone-going, AreDone-stopped, IsSome-stopped}
 use Rattle.lab_clients.proofs.clients.LabClients.reap_at.Goals as goal

@@ -1,9 +1,4 @@
-use Rattle.std.proofs.Common.{IsSome, Option, refl, subst}
-use Rattle.std.specs.Vec.{with_item}
-use Rattle.lab_clients.specs.declared.open_client.OpenClient.{OpenClient}
-use Rattle.lab_clients.specs.OneClient.{open_of}
-use Rattle.lab_clients.specs.declared.clients.LabClients.{LabClients}
-use Rattle.lab_clients.specs.AtStage.{clients_of}
+use Rattle.lab_clients.specs.Prelude.{IsSome, refl, subst, Option, with_item, LabClients, OpenClient, clients_of, open_of}
 use Rattle.lab_clients.proofs.OpenAt.{open_at-read}
 use Rattle.lab_clients.proofs.ReapLaws.{AreDone-closed, CanClose-closed, OneRing-closed, WasClosed-open}
 use Rattle.lab_clients.proofs.clients.LabClients.reap_open.Goals as goal

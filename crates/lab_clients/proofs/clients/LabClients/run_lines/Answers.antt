@@ -1,13 +1,5 @@
-use Rattle.std.specs.Prelude.{◌<◌, length}
-use Rattle.std.proofs.Common.{◌∙◌, arith, subst, sym}
-use Rattle.std.proofs.lemmas.List.{get_or_default}
-use Rattle.wav_io.specs.Sound.{Sound}
-use Rattle.lab_actors.specs.Walks.{AreEach-ended, HasWalked-still}
-use Rattle.lab_run.specs.Items.{no_sound}
-use Rattle.lab_clients.specs.declared.client.LabClient.{LabClient}
-use Rattle.lab_clients.specs.AtStage.{clients_of}
-use Rattle.lab_clients.specs.OneClient.{CanRun}
-use Rattle.lab_clients.specs.Steps.{IsReadyAt, RunsAt}
+use Rattle.lab_clients.specs.Prelude.{arith, length, subst, sym, ◌∙◌, get_or_default, ◌<◌, Sound, no_sound, AreEach-ended, HasWalked-still, LabClient}
+use Rattle.lab_clients.specs.Prelude.{clients_of, CanRun, IsReadyAt, RunsAt}
 use Rattle.lab_clients.proofs.RunLemmas.{HaveRun-next}
 use Rattle.lab_clients.proofs.clients.LabClients.run_lines.Goals as goal
 

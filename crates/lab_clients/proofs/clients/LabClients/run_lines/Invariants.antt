@@ -1,5 +1,4 @@
-use Rattle.std.proofs.Common.{◌≡◌}
-use Rattle.lab_clients.specs.AtStage.{clients_of, places_of}
+use Rattle.lab_clients.specs.Prelude.{◌≡◌, clients_of, places_of}
 use Rattle.lab_clients.proofs.RunLemmas.{HaveRun}
 use Rattle.lab_clients.proofs.clients.LabClients.run_lines.Given as goal
 

@@ -1,7 +1,4 @@
-use Rattle.std.specs.Prelude.{◌≡◌, ◌≤◌, List, length}
-use Rattle.std.proofs.Common.{arith, subst, sym}
-use Rattle.lab_clients.specs.declared.client.LabClient.{LabClient}
-use Rattle.lab_clients.specs.Steps.{AreReady, AreSameFrom, RunsAt}
+use Rattle.lab_clients.specs.Prelude.{arith, length, List, subst, sym, ◌≡◌, ◌≤◌, LabClient, AreReady, AreSameFrom, RunsAt}
 use Rattle.lab_clients.proofs.Lent.{AreEach-lent}
 use Rattle.lab_clients.proofs.clients.LabClients.run_lines_at_once.Goals as goal
 

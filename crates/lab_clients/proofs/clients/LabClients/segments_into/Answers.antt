@@ -1,9 +1,5 @@
-use Rattle.std.proofs.Common.{◌≡◌, ◌++◌, ◌+◌, ◌<◌, ◌≤◌, List, ap, arith, length, slice_index_or, subst, vec_capacity, vec_len, ◌∙◌}
-use Rattle.std.specs.List.{flat_map}
-use Rattle.lab_actors.specs.Rows.{lists-next, lists-room}
-use Rattle.lab_clients.specs.declared.client.LabClient.{LabClient}
-use Rattle.lab_clients.specs.AtStage.{clients_of}
-use Rattle.lab_clients.specs.End.{all_segments-listed, segments_by}
+use Rattle.lab_clients.specs.Prelude.{ap, arith, length, List, subst, vec_capacity, vec_len, ◌++◌, ◌+◌, ◌∙◌, ◌≡◌, ◌≤◌, flat_map, slice_index_or, ◌<◌}
+use Rattle.lab_clients.specs.Prelude.{lists-next, lists-room, LabClient, clients_of, all_segments-listed, segments_by}
 use Rattle.lab_clients.proofs.EndLaws.{length-segments_by, take-past}
 use Rattle.lab_clients.proofs.clients.LabClients.segments_into.Goals as goal
 

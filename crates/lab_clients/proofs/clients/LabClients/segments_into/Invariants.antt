@@ -1,7 +1,4 @@
-use Rattle.std.proofs.Common.{◌≡◌, ◌≤◌, ◌++◌, take, vec_capacity}
-use Rattle.std.specs.List.{flat_map}
-use Rattle.lab_clients.specs.AtStage.{clients_of}
-use Rattle.lab_clients.specs.End.{segments_by}
+use Rattle.lab_clients.specs.Prelude.{take, vec_capacity, ◌++◌, ◌≡◌, ◌≤◌, flat_map, clients_of, segments_by}
 use Rattle.lab_clients.proofs.clients.LabClients.segments_into.Given as goal
 
 abbrev pub invariant-loop-client : goal.invariant-loop-client

@@ -1,6 +1,4 @@
-use Rattle.lab_actors.specs.Walks.{AreEach-part, AreEach-ended, HasWalked-map, HasWalked-read}
-use Rattle.lab_clients.specs.AtStage.{clients_of}
-use Rattle.lab_clients.specs.Steps.{HasTakenRoom, IsSameWithRows, IsSameWithRows-none}
+use Rattle.lab_clients.specs.Prelude.{AreEach-ended, AreEach-part, HasWalked-map, HasWalked-read, clients_of, HasTakenRoom, IsSameWithRows, IsSameWithRows-none}
 use Rattle.lab_clients.proofs.Results.{OnErr-always}
 use Rattle.lab_clients.proofs.clients.LabClients.take_room.Goals as goal
 

@@ -1,7 +1,4 @@
-use Rattle.std.proofs.Common.{◌≡◌}
-use Rattle.lab_actors.specs.Walks.{HasWalked}
-use Rattle.lab_clients.specs.AtStage.{clients_of, places_of}
-use Rattle.lab_clients.specs.Steps.{HasTakenRoom}
+use Rattle.lab_clients.specs.Prelude.{◌≡◌, HasWalked, clients_of, places_of, HasTakenRoom}
 use Rattle.lab_clients.proofs.clients.LabClients.take_room.Given as goal
 
 abbrev pub invariant-loop-index : goal.invariant-loop-index

@@ -1,13 +1,5 @@
-use Rattle.std.proofs.Common.{◌++◌, ◌∙◌, List, ap, arith, length, subst, sym}
-use Rattle.std.specs.List.{flat_map}
-use Rattle.std.proofs.lemmas.List.{take_all}
-use Rattle.lab_actors.specs.Room.{HasSpace}
-use Rattle.lab_actors.specs.Rows.{rows-next, rows-room}
-use Rattle.lab_actors.specs.Walks.{AreEach-ended, HasWalked-read}
-use Rattle.lab_clients.specs.declared.client.LabClient.{LabClient}
-use Rattle.lab_clients.specs.AtStage.{clients_of}
-use Rattle.lab_clients.specs.OneClient.{rows_of}
-use Rattle.lab_clients.specs.Steps.{HasGivenRows}
+use Rattle.lab_clients.specs.Prelude.{ap, arith, length, List, subst, sym, ◌++◌, ◌∙◌, take_all, flat_map, HasSpace, rows-next, rows-room, AreEach-ended}
+use Rattle.lab_clients.specs.Prelude.{HasWalked-read, LabClient, clients_of, rows_of, HasGivenRows}
 use Rattle.lab_clients.proofs.clients.LabClients.take_rows.Goals as goal
 
 pub take_rows-requires : goal.take_rows-requires

@@ -1,9 +1,4 @@
-use Rattle.std.proofs.Common.{◌≡◌, ◌++◌, ◌≤◌, take, vec_capacity}
-use Rattle.std.specs.List.{flat_map}
-use Rattle.lab_actors.specs.Walks.{HasWalked}
-use Rattle.lab_clients.specs.AtStage.{clients_of, places_of}
-use Rattle.lab_clients.specs.OneClient.{rows_of}
-use Rattle.lab_clients.specs.Steps.{HasGivenRows}
+use Rattle.lab_clients.specs.Prelude.{take, vec_capacity, ◌++◌, ◌≡◌, ◌≤◌, flat_map, HasWalked, clients_of, places_of, rows_of, HasGivenRows}
 use Rattle.lab_clients.proofs.clients.LabClients.take_rows.Given as goal
 
 abbrev pub invariant-loop-index : goal.invariant-loop-index

@@ -1,16 +1,7 @@
-use Rattle.std.proofs.Common.{◌≡◌, List, [], ◌∷◌, ◌++◌, ap, arith, refl, subst, sym, ◌∙◌}
-use Rattle.std.specs.Prelude.{Some, if◌then◌else◌}
-use Rattle.snd_base.specs.declared.places.Segment.{Segment}
-use Rattle.lab_lines.specs.declared.line.Actor.TheVariants as actor
-use Rattle.lab_lines.specs.declared.row.Row.{Row}
-use Rattle.lab_run.specs.Client.{ended_by}
-use Rattle.lab_run.specs.ClientAtPort.{IsClientLine}
-use Rattle.lab_run.specs.Members.{with_member}
-use Rattle.lab_clients.specs.Lines.{ends_stretch, laid_of}
-use Rattle.lab_clients.specs.Parts.{client_of}
-use Rattle.lab_actors.specs.Countdown.{at_gate_of, by_gate_of, left_of}
+use Rattle.lab_clients.specs.Prelude.{ap, arith, List, refl, subst, sym, [], ◌++◌, ◌∙◌, ◌∷◌, ◌≡◌, if◌then◌else◌, Some, Segment, Row, ended_by, IsClientLine}
+use Rattle.lab_clients.specs.Prelude.{with_member, at_gate_of, by_gate_of, left_of, both, ends_stretch, laid_of, client_of}
 use Rattle.lab_clients.proofs.Answered.{ended_by-test}
-use Rattle.lab_actors.specs.GateLaws.{both}
+use Rattle.lab_lines.specs.declared.line.Actor.TheVariants as actor
 use Rattle.lab_clients.proofs.lines.ClientActor.do_line.Goals as goal
 
 pub returns : goal.returns

@@ -1,18 +1,11 @@
-use Rattle.std.proofs.Common.{◌≡◌, ℕ, ◌<◌, ◌∙◌, List, arith, get_or, length, subst, sym, take}
-use Rattle.std.proofs.lemmas.List.{get_or_default, take_all}
-use Rattle.std.specs.Prelude.{Bool, true, false}
-use Rattle.lab_lines.specs.declared.line.Actor.TheVariants as actor
-use Rattle.lab_lines.specs.declared.line.Line.{Line}
-use Rattle.lab_lines.specs.declared.line.Op.TheVariants as op
-use Rattle.lab_run.specs.Phases.{is_client, ops_by}
-use Rattle.lab_clients.specs.Parts.{ClientPart}
-use Rattle.lab_actors.specs.Countdown.{at_gate_of, by_gate_of, left_of}
-use Rattle.lab_actors.specs.CountdownLaws.{KeepsGate-joined, KeepsGate-none}
-use Rattle.lab_actors.specs.GateLaws.{both}
+use Rattle.lab_clients.specs.Prelude.{arith, get_or, length, List, subst, sym, take, ℕ, ◌∙◌, ◌≡◌, get_or_default, take_all, Bool, false, true, ◌<◌, Line}
+use Rattle.lab_clients.specs.Prelude.{is_client, ops_by, at_gate_of, by_gate_of, left_of, KeepsGate-joined, KeepsGate-none, both, other-line, own-line}
+use Rattle.lab_clients.specs.Prelude.{room-next, room-own, ClientPart}
 use Rattle.lab_clients.proofs.PartLaws.{ClientPart-more, ClientPart-none}
-use Rattle.lab_actors.specs.LineLaws.{other-line, own-line, room-next, room-own}
-use Rattle.lab_clients.proofs.lines.ClientActor.do_lines.Goals as goal
 use Rattle.lab_clients.proofs.lines.ClientActor.do_lines.Goals.{else-is_of, then-is_of}
+use Rattle.lab_lines.specs.declared.line.Actor.TheVariants as actor
+use Rattle.lab_lines.specs.declared.line.Op.TheVariants as op
+use Rattle.lab_clients.proofs.lines.ClientActor.do_lines.Goals as goal
 
 pub loop-index-init : goal.loop-index-init
 loop-index-init g c = record {

@@ -1,9 +1,5 @@
-use Rattle.std.proofs.Common.{◌+◌, ◌≤◌, length, take, vec_capacity, vec_len}
-use Rattle.lab_run.specs.Phases.{is_client, ops_by}
-use Rattle.lab_clients.specs.Lines.{IsReady}
-use Rattle.lab_clients.specs.Parts.{ClientPart}
-use Rattle.lab_actors.specs.Countdown.{KeepsGate, at_gate_of, by_gate_of, left_of}
-use Rattle.lab_actors.specs.Lines.{line_count}
+use Rattle.lab_clients.specs.Prelude.{length, take, vec_capacity, vec_len, ◌+◌, ◌≤◌, is_client, ops_by, at_gate_of, by_gate_of, KeepsGate, left_of, line_count}
+use Rattle.lab_clients.specs.Prelude.{IsReady, ClientPart}
 use Rattle.lab_lines.specs.declared.line.Actor.TheVariants as actor
 use Rattle.lab_clients.proofs.lines.ClientActor.do_lines.Given as goal
 

@@ -1,7 +1,5 @@
-use Rattle.std.proofs.Common.{arith, refl, rules, subst, sym, ◌∙◌}
-use Rattle.lab_run.specs.GateAsks.{HasAsked}
+use Rattle.lab_clients.specs.Prelude.{arith, refl, rules, subst, sym, ◌∙◌, HasAsked, at_gate_of, by_gate_of, left_of}
 use Rattle.lab_actors.specs.Shares.{at_gate_in, left_in, stops_in}
-use Rattle.lab_actors.specs.Countdown.{at_gate_of, by_gate_of, left_of}
 use Rattle.lab_clients.proofs.PartLaws.{ClientPart-shared}
 use Rattle.lab_clients.proofs.lines.ClientActor.run_at.Goals as goal
 

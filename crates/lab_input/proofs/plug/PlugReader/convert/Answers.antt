@@ -1,8 +1,5 @@
-use Rattle.std.proofs.Common.{◌≡◌, ℕ, List, ◌+◌, ◌*◌, ◌<◌, ◌≤◌, ◌++◌, length, arith, subst, sym}
-use Rattle.std.proofs.lemmas.List.{length-append}
-use Rattle.lab_input.specs.Converting.{IsConverted}
-use Rattle.plug_chain.specs.Plugs.{Continues, plug_of}
-use Rattle.wav_io.specs.Reading.{most_bytes}
+use Rattle.lab_input.specs.Prelude.{arith, length, List, subst, sym, ℕ, ◌*◌, ◌++◌, ◌+◌, ◌<◌, ◌≡◌, ◌≤◌, length-append, Continues, plug_of, most_bytes}
+use Rattle.lab_input.specs.Prelude.{IsConverted}
 use Rattle.lab_input.proofs.Plugging.{IsConverted-next, IsFed-converted, IsFed-few, IsFed-long}
 use Rattle.lab_input.proofs.plug.PlugReader.convert.Goals as goal
 

@@ -1,6 +1,4 @@
-use Rattle.std.proofs.Common.{◌≡◌, ℕ, List, ◌++◌, false, true, ap, sym, ◌∙◌, append-nil}
-use Rattle.std.proofs.lemmas.Bool.{false_from_ne_true}
-use Rattle.wav_io.specs.Readers.{has_begun, raw_to_come, with_bytes}
+use Rattle.lab_input.specs.Prelude.{ap, append-nil, List, sym, ℕ, ◌++◌, ◌∙◌, ◌≡◌, raw_to_come, with_bytes}
 use Rattle.lab_input.proofs.Plugging.{IsSoFar-fed, with_bytes-fed, none_begun}
 use Rattle.lab_input.proofs.plug.PlugReader.feed.Goals as goal
 

@@ -1,4 +1,4 @@
-use Rattle.std.proofs.Common.{◌≡◌, ℕ, ◌%◌, List, ℤ, length, Ok, ap, sym, ◌∙◌, arith}
+use Rattle.std.proofs.Common.{ℕ, ◌%◌, List, ℤ, length, Ok, ap, sym, ◌∙◌, arith}
 use Rattle.lab_input.proofs.Plugging.{IsConverting-ended, IsConverting-whole}
 use Rattle.lab_input.proofs.plug.PlugReader.finish.Goals as goal
 

@@ -1,8 +1,4 @@
-use Rattle.std.proofs.Common.{subst, sym}
-use Rattle.std.specs.Prelude.{◌++◌, IfErr, OnOk}
-use Rattle.lab_input.specs.declared.sound.FileReader.{FileReader}
-use Rattle.lab_input.specs.declared.sound.FileReader.TheVariants.{Plain, Plugged}
-use Rattle.lab_input.specs.Sound.{IsAfter}
+use Rattle.lab_input.specs.Prelude.{subst, FileReader, IsAfter}
 use Rattle.lab_input.proofs.Feeding.{IsAfter-plugged, IsRefusal-plain, IsRefusal-plugged}
 use Rattle.lab_input.proofs.sound.FileReader.feed.Goals as goal
 

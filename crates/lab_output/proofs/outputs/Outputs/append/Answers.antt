@@ -1,7 +1,5 @@
-use Rattle.std.proofs.Common.{◌≡◌, ◌-◌, ℕ, List, length, get_or, take, drop, arith, ap, ◌∙◌}
-use Rattle.std.proofs.lemmas.List.{get_or_default, take_all, length-drop}
-use Rattle.std.proofs.lemmas.Result.{err_from_is_err_and}
-use Rattle.lab_stop.specs.EffectLaws.{CountsNoFault-writes, OnlyWrites-done, OnlyWrites-passed}
+use Rattle.lab_output.specs.Prelude.{ap, arith, drop, get_or, length, List, take, ℕ, ◌-◌, ◌∙◌, ◌≡◌, get_or_default, length-drop, take_all, err_from_is_err_and}
+use Rattle.lab_output.specs.Prelude.{CountsNoFault-writes, OnlyWrites-done, OnlyWrites-passed}
 use Rattle.lab_output.proofs.Going.{append-going_on, append-Changes, append_part-Changes}
 use Rattle.lab_output.proofs.Held.{IsGoingOn-there, file-at, no-write}
 use Rattle.lab_output.proofs.outputs.Outputs.append.Goals as goal

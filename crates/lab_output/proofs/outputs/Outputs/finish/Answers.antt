@@ -1,6 +1,4 @@
-use Rattle.std.proofs.Common.{List, subst, sym}
-use Rattle.lab_output.specs.declared.file.OutputFile.{OutputFile}
-use Rattle.lab_output.specs.Going.{HaveFiles, HaveHeadRoom}
+use Rattle.lab_output.specs.Prelude.{List, subst, sym, OutputFile, HaveFiles, HaveHeadRoom}
 use Rattle.lab_output.proofs.Going.{finish-stored, finish-Changes, IsGoingOn-rooms}
 use Rattle.lab_output.proofs.Held.{IsGoingOn-there}
 use Rattle.lab_output.proofs.Kept.{finish-samples}

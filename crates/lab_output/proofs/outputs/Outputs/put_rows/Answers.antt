@@ -1,7 +1,4 @@
-use Rattle.std.proofs.Common.{◌∙◌}
-use Rattle.std.proofs.lemmas.List.Elements.{All-drop, All-take}
-use Rattle.lab_report.specs.Text.{IsRowOf}
-use Rattle.lab_stop.specs.EffectLaws.{PutsText-done, PutsText-memory, PutsText-named, PutsText-passed}
+use Rattle.lab_output.specs.Prelude.{◌∙◌, All-drop, All-take, IsRowOf, PutsText-done, PutsText-memory, PutsText-named, PutsText-passed}
 use Rattle.lab_output.proofs.Rows.{rows_text-slice}
 use Rattle.lab_output.proofs.outputs.Outputs.put_rows.Goals as goal
 

@@ -1,10 +1,5 @@
-use Rattle.std.proofs.Common.{◌≡◌, List, ℕ, ◌++◌, ◌-◌, ap, ◌∙◌, drop, take, length}
-use Rattle.std.proofs.lemmas.List.Elements.{All-drop, All-same, All-take}
-use Rattle.std.specs.List.{flat_map}
-use Rattle.lab_lines.specs.declared.row.Row.{Row}
-use Rattle.lab_report.specs.Text.{IsRowOf, row_line, tail_text}
-use Rattle.lab_stop.specs.EffectLaws.{PutsText-memory, PutsText-named}
-use Rattle.lab_output.specs.Text.{tail_from}
+use Rattle.lab_output.specs.Prelude.{ap, drop, length, List, take, ℕ, ◌++◌, ◌-◌, ◌∙◌, ◌≡◌, All-drop, All-same, All-take, flat_map, Row, IsRowOf, row_line}
+use Rattle.lab_output.specs.Prelude.{tail_text, PutsText-memory, PutsText-named, tail_from}
 use Rattle.lab_output.proofs.Rows.{rows_text-slice}
 use Rattle.lab_output.proofs.outputs.Outputs.put_tail.Goals as goal
 

@@ -1,10 +1,5 @@
-use Rattle.std.proofs.Common.{◌∙◌, ◌≡◌}
-use Rattle.lab_lines.specs.declared.line.Item.{Item}
-use Rattle.lab_phase.specs.declared.lab.Lab.{Lab}
-use Rattle.lab_phase.specs.AtStage.{DoesItem, played_of}
-use Rattle.lab_phase.specs.BorderLaws.{OnErr-always, OnErr-both, OnOk-more}
-use Rattle.lab_phase.specs.PhaseRuns.{StaysAtStage}
-use Rattle.lab_phase.specs.Same.{DoesItem-stays, IsNextItem-stays, StaysAtStage-joined}
+use Rattle.lab_phase.specs.Prelude.{◌∙◌, ◌≡◌, Item, Lab, DoesItem, played_of, OnErr-always, OnErr-both, OnOk-more, StaysAtStage, DoesItem-stays}
+use Rattle.lab_phase.specs.Prelude.{IsNextItem-stays, StaysAtStage-joined}
 use Rattle.lab_phase.proofs.lab.Lab.border.Goals as goal
 
 pub returns-in_err-take_row_room-clause-kept : goal.returns-in_err-take_row_room-clause-kept

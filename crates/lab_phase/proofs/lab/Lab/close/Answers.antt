@@ -1,14 +1,8 @@
-use Rattle.std.proofs.Common.{arith, refl, sym, subst, ◌<◌, length, ℕ}
-use Rattle.lab_lines.specs.declared.line.Actor.{Actor}
-use Rattle.lab_lines.specs.declared.line.Actor.TheVariants as whose
-use Rattle.lab_lines.specs.Limits.{IsBorder}
-use Rattle.lab_run.specs.Stage.{after_close}
-use Rattle.lab_phase.specs.declared.lab.Lab.{Lab}
-use Rattle.lab_phase.specs.AtStage.{DoesRow, capture_of, session_of}
-use Rattle.lab_phase.specs.Borders.{after_close-keeps_clients, after_close-keeps_readers}
-use Rattle.lab_phase.specs.BorderLaws.{DoesRow-clients, DoesRow-reader}
+use Rattle.lab_phase.specs.Prelude.{arith, refl, subst, sym, ◌<◌, length, ℕ, Actor, IsBorder, after_close, Lab, capture_of, DoesRow, session_of}
+use Rattle.lab_phase.specs.Prelude.{DoesRow-clients, DoesRow-reader, after_close-keeps_clients, after_close-keeps_readers}
 use Rattle.lab_readers.specs.StepLaws.{AreOfRing-at}
 use Rattle.lab_phase.proofs.Numbers.{client_count, reader_count}
+use Rattle.lab_lines.specs.declared.line.Actor.TheVariants as whose
 use Rattle.lab_phase.proofs.lab.Lab.close.Goals as goal
 
 pub close-requires-clause-number : goal.close-requires-clause-number

@@ -1,12 +1,6 @@
-use Rattle.std.proofs.Common.{sym, ap, subst, ◌∙◌, ◌<◌, length, ℕ}
-use Rattle.std.specs.Global.{Vec}
-use Rattle.lab_lines.specs.declared.row.Row.{Row}
-use Rattle.lab_lines.specs.declared.line.Item.{Item}
-use Rattle.lab_lines.specs.declared.script.Script.{Script}
+use Rattle.lab_phase.specs.Prelude.{ap, subst, sym, ◌<◌, ◌∙◌, Vec, length, ℕ, Item, Row, Script, Lab, border_after, played_by, session_of, DoesItem-row}
+use Rattle.lab_phase.specs.Prelude.{ItemMay-border, next-inside, OnErr-always}
 use Rattle.lab_actors.specs.Room.{HasSpace}
-use Rattle.lab_phase.specs.declared.lab.Lab.{Lab}
-use Rattle.lab_phase.specs.AtStage.{border_after, played_by, session_of}
-use Rattle.lab_phase.specs.BorderLaws.{DoesItem-row, ItemMay-border, OnErr-always, next-inside}
 use Rattle.lab_phase.proofs.lab.Lab.do_border.Goals as goal
 
 pub add_row-requires-clause-next : goal.add_row-requires-clause-next

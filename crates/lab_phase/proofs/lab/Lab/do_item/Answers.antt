@@ -1,9 +1,4 @@
-use Rattle.std.proofs.Common.{sym, subst}
-use Rattle.std.specs.Prelude.{IfOk, length}
-use Rattle.lab_lines.specs.Limits.{IsItem}
-use Rattle.lab_lines.specs.declared.line.Item.{Item}
-use Rattle.lab_phase.specs.declared.lab.Lab.{Lab}
-use Rattle.lab_phase.specs.AtStage.{DoesRow, border_after, session_of}
+use Rattle.lab_phase.specs.Prelude.{subst, sym, IfOk, length, Item, IsItem, Lab, border_after, DoesRow, session_of}
 use Rattle.lab_phase.proofs.Numbers.{IsItem-next}
 use Rattle.lab_phase.proofs.lab.Lab.do_item.Goals as goal
 

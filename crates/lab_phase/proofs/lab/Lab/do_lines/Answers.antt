@@ -1,24 +1,9 @@
-use Rattle.std.specs.Prelude.{◌≢◌}
-use Rattle.std.proofs.Common.{◌≡◌, arith, rules, refl, List, Some, ◌+◌, length}
-use Rattle.std.specs.Global.{Vec}
-use Rattle.mix_core.specs.declared.gate.Gate as gate
-use Rattle.lab_lines.specs.declared.line.Line.{Line}
-use Rattle.lab_lines.specs.declared.row.Row.{Row}
-use Rattle.lab_lines.specs.Script.{is_of_card}
-use Rattle.lab_run.specs.Items.{held_of}
-use Rattle.lab_run.specs.Phases.{ops_by}
-use Rattle.lab_card.specs.declared.card.CardActor.{CardActor}
-use Rattle.lab_clients.specs.declared.clients.LabClients.{LabClients}
-use Rattle.lab_readers.specs.declared.readers.LabReaders.{LabReaders}
-use Rattle.lab_readers.specs.StepLaws.{AreOfRing-done}
-use Rattle.lab_phase.specs.AskLaws.{RunsPhase-more, HaveAsked-none}
-use Rattle.lab_phase.specs.declared.lab.Lab.{Lab}
-use Rattle.lab_phase.specs.declared.steps.PhaseInput.{PhaseInput}
-use Rattle.lab_phase.specs.AtStage.{capture_of, session_of}
-use Rattle.lab_phase.specs.BorderLaws.{OnErr-always, OnOk-more}
-use Rattle.lab_phase.specs.PhaseLaws.{ActorLaws}
-use Rattle.lab_phase.specs.PhaseRuns.{HasRunLines, HaveAsked, HaveRunLines, HaveSameAsks, IsSameLab, RunsPhase, Stops, asks_of_lab, stops_by}
+use Rattle.lab_phase.specs.Prelude.{arith, refl, rules, ◌+◌, ◌≡◌, Vec, length, List, Some, ◌≢◌, Line, Row, is_of_card, held_of, ops_by, CardActor, LabClients}
+use Rattle.lab_phase.specs.Prelude.{LabReaders, AreOfRing-done, Lab, PhaseInput, HaveAsked-none, RunsPhase-more, capture_of, session_of, OnErr-always}
+use Rattle.lab_phase.specs.Prelude.{OnOk-more, ActorLaws, asks_of_lab, HasRunLines, HaveAsked, HaveRunLines, HaveSameAsks, IsSameLab, RunsPhase, Stops}
+use Rattle.lab_phase.specs.Prelude.{stops_by}
 use Rattle.lab_phase.proofs.PhaseStages.{GiveFewRows-at, RunsPhase-reaped, can-meet, done-lines, fits-phase, phases-few}
+use Rattle.mix_core.specs.declared.gate.Gate as gate
 use Rattle.lab_phase.proofs.lab.Lab.do_lines.Goals as goal
 
 pub returns-then-line_count-lines-clause-runs : goal.returns-then-line_count-lines-clause-runs

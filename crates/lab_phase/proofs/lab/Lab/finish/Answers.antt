@@ -1,16 +1,7 @@
-use Rattle.std.specs.Prelude.{IsSomeAnd, List, Option, length, map, ◌+◌, ◌++◌, ℕ, ℤ}
-use Rattle.std.specs.Global.{Vec}
-use Rattle.std.proofs.Common.{ap, arith, ◌∙◌, subst, sym}
-use Rattle.snd_base.specs.declared.places.Segment.{Segment}
-use Rattle.lab_run.specs.Items.{held_of}
-use Rattle.lab_run.specs.LabRun.{all_runs, all_segments, recorded_from}
-use Rattle.lab_run.specs.Stage.{Session, Stage}
-use Rattle.lab_card.specs.declared.card.CardActor.{CardActor}
+use Rattle.lab_phase.specs.Prelude.{ap, arith, subst, sym, ◌+◌, ◌∙◌, Vec, IsSomeAnd, length, List, map, Option, ℕ, ℤ, ◌++◌, Segment, held_of, all_runs}
+use Rattle.lab_phase.specs.Prelude.{all_segments, recorded_from, Session, Stage, CardActor, Lab, capture_of, session_of, IsMixOf}
 use Rattle.lab_clients.specs.End.{all_segments-listed}
 use Rattle.lab_readers.specs.End.{all_runs-at}
-use Rattle.lab_phase.specs.declared.lab.Lab.{Lab}
-use Rattle.lab_phase.specs.AtStage.{capture_of, session_of}
-use Rattle.lab_phase.specs.Ended.{IsMixOf}
 use Rattle.lab_phase.proofs.Ending.{HaveAllPlaces-at, may-end, outcome-at, played-mixed}
 use Rattle.lab_phase.proofs.Numbers.{reader_count}
 use Rattle.lab_phase.proofs.lab.Lab.finish.Goals as goal

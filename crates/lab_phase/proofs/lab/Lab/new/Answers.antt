@@ -1,27 +1,14 @@
-use Rattle.std.specs.Prelude.{ℕ, nat_lt, [], Option}
-use Rattle.std.specs.Option.{option_copied}
-use Rattle.std.proofs.Common.{arith, refl, subst, sym, ap, ◌+◌, ◌∙◌, ◌≡◌, length}
+use Rattle.lab_phase.specs.Prelude.{ap, arith, refl, subst, sym, ◌+◌, ◌∙◌, ◌≡◌, option_copied, length, nat_lt, Option, ℕ, [], player_key, player_ring, key_of}
+use Rattle.lab_phase.specs.Prelude.{ReaderSeat, writer_geometry, writer_ring, Card, period_of, records_of, writer_of, Sound, Session, CardActor, seat_of_card}
+use Rattle.lab_phase.specs.Prelude.{session_with, has_readers, HasReportRoom, HasReportRoom-fewer}
 use Rattle.sum_table.specs.declared.view.Key.{Key}
-use Rattle.sum_table.specs.Players.{player_key, player_ring}
-use Rattle.sum_table.specs.Seats.{key_of}
-use Rattle.snoop_table.specs.declared.seats.reader.ReaderSeat.{ReaderSeat}
-use Rattle.snoop_table.specs.Readers as seats
-use Rattle.snoop_table.specs.Writers.{writer_geometry, writer_ring}
 use Rattle.card_player.specs.declared.player.CardPlayer.{CardPlayer}
 use Rattle.card_player.specs.Plays.{seat_of}
-use Rattle.card_sim.specs.declared.card.Card.{Card}
-use Rattle.card_sim.specs.Runs.{period_of, records_of, writer_of}
-use Rattle.wav_io.specs.Sound.{Sound}
-use Rattle.lab_run.specs.Stage.{Session}
-use Rattle.lab_card.specs.declared.card.CardActor.{CardActor}
-use Rattle.lab_card.specs.Moves.{seat_of_card}
-use Rattle.lab_actors.specs.Sessions.{session_with}
-use Rattle.lab_phase.specs.CardStage.{has_readers}
-use Rattle.lab_phase.specs.ReportRoom.{HasReportRoom, HasReportRoom-fewer}
 use Rattle.lab_phase.proofs.Beginning.{IsCardIn-new}
 use Rattle.lab_phase.proofs.FirstSetups.{AllFitCard-session, AreUsable-ring, first_frame-ring}
 use Rattle.lab_phase.proofs.Numbers.{AreClientOpenings-length, AreReaderOpenings-length}
 use Rattle.lab_phase.proofs.Rings.{IsRingOf-unique}
+use Rattle.snoop_table.specs.Readers as seats
 use Rattle.lab_phase.proofs.lab.Lab.new.Goals as goal
 
 pub returns-clause-first : goal.returns-clause-first

@@ -1,9 +1,4 @@
-use Rattle.std.proofs.Common.{sym, subst}
-use Rattle.std.specs.Prelude.{IfOk}
-use Rattle.lab_lines.specs.declared.line.Actor.{Actor}
-use Rattle.lab_run.specs.Stage.{after_open}
-use Rattle.lab_phase.specs.declared.lab.Lab.{Lab}
-use Rattle.lab_phase.specs.AtStage.{DoesRow, session_of}
+use Rattle.lab_phase.specs.Prelude.{subst, sym, IfOk, Actor, after_open, Lab, DoesRow, session_of}
 use Rattle.lab_phase.proofs.lab.Lab.open.Goals as goal
 
 pub returns-in-Client-clause-does : goal.returns-in-Client-clause-does

@@ -1,21 +1,9 @@
-use Rattle.std.specs.Prelude.{Some, Option, IsSomeAnd}
-use Rattle.std.proofs.Common.{rules, arith, refl, sym, ap, subst, ◌∙◌, ◌≡◌, ℕ}
-use Rattle.std.specs.Option.{option_copied}
-use Rattle.lab_lines.specs.declared.line.Actor.TheVariants as whose
-use Rattle.lab_run.specs.Stage.{Session, Stage, after_open}
-use Rattle.lab_card.specs.declared.card.CardActor.{CardActor}
-use Rattle.lab_card.specs.Moves.{frame_of_card}
-use Rattle.lab_actors.specs.Walks.{AreEach}
-use Rattle.lab_clients.specs.AtStage.{AreAfter, clients_of, places_of}
-use Rattle.lab_clients.specs.Opening.{AreBeforeOpening}
-use Rattle.lab_clients.specs.Steps.{IsSameWithRows}
-use Rattle.lab_phase.specs.declared.lab.Lab.{Lab}
-use Rattle.lab_phase.specs.AtStage.{DoesRow, IsCardOf, capture_of, session_of}
-use Rattle.lab_phase.specs.Borders.{after_open-keeps_readers}
-use Rattle.lab_phase.specs.BorderLaws.{DoesRow-client, IfOk-more, OnErr-both}
-use Rattle.lab_phase.specs.PhaseRuns.{StaysAtStage}
-use Rattle.lab_phase.specs.Same.{StaysAtStage-client}
+use Rattle.lab_phase.specs.Prelude.{ap, arith, refl, rules, subst, sym, ◌∙◌, ◌≡◌, option_copied, IsSomeAnd, Option, Some, ℕ, after_open, Session, Stage}
+use Rattle.lab_phase.specs.Prelude.{CardActor, frame_of_card, AreEach, AreAfter, clients_of, places_of, AreBeforeOpening, IsSameWithRows, Lab, capture_of}
+use Rattle.lab_phase.specs.Prelude.{DoesRow, IsCardOf, session_of, DoesRow-client, IfOk-more, OnErr-both, after_open-keeps_readers, StaysAtStage}
+use Rattle.lab_phase.specs.Prelude.{StaysAtStage-client}
 use Rattle.lab_phase.proofs.Numbers.{client_count, client_opening-any, client_openings, client_usable}
+use Rattle.lab_lines.specs.declared.line.Actor.TheVariants as whose
 use Rattle.lab_phase.proofs.lab.Lab.open_client.Goals as goal
 
 pub index-requires : goal.index-requires

@@ -1,20 +1,10 @@
-use Rattle.std.specs.Prelude.{List, None, Option}
-use Rattle.std.proofs.Common.{rules, arith, refl, ◌≡◌, ℕ, slice_index_or}
-use Rattle.std.specs.Option.{option_copied}
-use Rattle.wav_io.specs.Sound.{Sound}
-use Rattle.lab_lines.specs.declared.line.Actor.TheVariants as whose
-use Rattle.lab_run.specs.Reader.{Reader}
-use Rattle.lab_run.specs.Rules.{AtPort}
-use Rattle.lab_run.specs.Stage.{Session, Stage, after_open}
-use Rattle.lab_readers.specs.AtStage.{AreAfter, AreAt}
+use Rattle.lab_phase.specs.Prelude.{arith, refl, rules, ◌≡◌, option_copied, List, None, Option, slice_index_or, ℕ, Sound, Reader, AtPort, after_open, Session}
+use Rattle.lab_phase.specs.Prelude.{Stage, AreAt, Lab, capture_of, DoesRow, session_of, DoesRow-reader, IfOk-more, OnErr-both, after_open-keeps_clients}
+use Rattle.lab_phase.specs.Prelude.{StaysAtStage, StaysAtStage-reader}
+use Rattle.lab_readers.specs.AtStage.{AreAfter}
 use Rattle.lab_readers.specs.Opening.{IsItemAt}
-use Rattle.lab_phase.specs.declared.lab.Lab.{Lab}
-use Rattle.lab_phase.specs.AtStage.{DoesRow, capture_of, session_of}
-use Rattle.lab_phase.specs.Borders.{after_open-keeps_clients}
-use Rattle.lab_phase.specs.BorderLaws.{DoesRow-reader, IfOk-more, OnErr-both}
-use Rattle.lab_phase.specs.PhaseRuns.{StaysAtStage}
-use Rattle.lab_phase.specs.Same.{StaysAtStage-reader}
 use Rattle.lab_phase.proofs.Numbers.{reader_count, reader_opening-any, reader_openings, reader_usable}
+use Rattle.lab_lines.specs.declared.line.Actor.TheVariants as whose
 use Rattle.lab_phase.proofs.lab.Lab.open_reader.Goals as goal
 
 pub index-requires : goal.index-requires

@@ -1,10 +1,5 @@
-use Rattle.std.proofs.Common.{◌≡◌, rules, refl, Some, ◌+◌}
-use Rattle.lab_phase.specs.PhaseInput.{asks_of}
-use Rattle.lab_phase.specs.declared.lab.Lab.{Lab}
-use Rattle.lab_phase.specs.declared.steps.PhaseInput.{PhaseInput}
-use Rattle.lab_phase.specs.BorderLaws.{OnErr-both, OnOk-more}
-use Rattle.lab_phase.specs.PhaseRuns.{HaveSameAsks, IsSameLab, PlaysAlone, RunsPhase, Stops}
-use Rattle.lab_phase.specs.PhaseSteps.{AreSameButRoom-card, IsSameButRoom}
+use Rattle.lab_phase.specs.Prelude.{refl, rules, ◌+◌, ◌≡◌, Some, Lab, PhaseInput, OnErr-both, OnOk-more, asks_of, HaveSameAsks, IsSameLab, PlaysAlone}
+use Rattle.lab_phase.specs.Prelude.{RunsPhase, Stops, AreSameButRoom-card, IsSameButRoom}
 use Rattle.lab_phase.proofs.AloneStages.{RunsPhase-alone}
 use Rattle.lab_phase.proofs.PhaseStages.{fits-phase, no-rows, phases-few}
 use Rattle.lab_phase.proofs.lab.Lab.run_card.Goals as goal

@@ -1,16 +1,7 @@
-use Rattle.std.proofs.Common.{arith, subst, sym, ◌+◌, ◌<◌, length, ℕ}
-use Rattle.std.specs.Global.{Vec}
-use Rattle.lab_lines.specs.declared.line.Item.TheVariants as item
-use Rattle.lab_lines.specs.declared.script.Script.{Script}
-use Rattle.lab_lines.specs.declared.row.Row.{Row}
-use Rattle.lab_phase.specs.declared.lab.Lab.{Lab}
-use Rattle.lab_phase.specs.AtStage.{HasEndRoom}
-use Rattle.lab_phase.specs.BorderLaws.{OnErr-always, next-inside}
-use Rattle.lab_phase.specs.declared.report_room.ReportRoom.{ReportRoom}
-use Rattle.lab_phase.specs.PhaseRuns.{HaveAsked, Stops, stops_by}
-use Rattle.lab_phase.specs.ReportRoom.{HasReportRoom-fewer}
-use Rattle.lab_phase.specs.Same.{IsAtStage-room, IsSameLab-after, IsSameLab-room}
+use Rattle.lab_phase.specs.Prelude.{arith, subst, sym, ◌+◌, ◌<◌, Vec, length, ℕ, Row, Script, Lab, ReportRoom, HasEndRoom, next-inside, OnErr-always, HaveAsked}
+use Rattle.lab_phase.specs.Prelude.{Stops, stops_by, HasReportRoom-fewer, IsAtStage-room, IsSameLab-after, IsSameLab-room}
 use Rattle.lab_phase.proofs.PhaseStages.{DoesPhase-counted, DoesPhase-room, phases-few}
+use Rattle.lab_lines.specs.declared.line.Item.TheVariants as item
 use Rattle.lab_phase.proofs.lab.Lab.run_phase.Goals as goal
 
 pub count_phase-requires-clause-few : goal.count_phase-requires-clause-few

@@ -1,7 +1,4 @@
-use Rattle.std.proofs.Common.{arith, length, ◌+◌}
-use Rattle.lab_phase.specs.declared.lab.Lab.{Lab}
-use Rattle.lab_phase.specs.ReportRoom.{HasReportRoom-fewer}
-use Rattle.lab_phase.specs.Same.{StaysAtStage-room}
+use Rattle.lab_phase.specs.Prelude.{arith, ◌+◌, length, Lab, HasReportRoom-fewer, StaysAtStage-room}
 use Rattle.lab_phase.proofs.lab.Lab.take_row_room.Goals as goal
 
 pub returns-in_err-reserve-clause-kept : goal.returns-in_err-reserve-clause-kept

@@ -1,8 +1,5 @@
-use Rattle.std.proofs.Common.{Err, Ok, Some, ap, refl, sym, ◌∙◌}
-use Rattle.sum_table.specs.Players.{position_of_player}
-use Rattle.lobby.specs.Lobbies.{free_seats}
+use Rattle.lab_places.specs.Prelude.{ap, Err, Ok, refl, Some, sym, ◌∙◌, position_of_player, free_seats, lobby_of}
 use Rattle.lobby.specs.Loads.{HasLoadedBeside}
-use Rattle.lab_places.specs.Held.{lobby_of}
 use Rattle.lab_places.proofs.Attached.{attaches-met, attaches-refused, free-given, given-is, place-given}
 use Rattle.lab_places.proofs.Attaching.{lobby-attaches}
 use Rattle.lab_places.proofs.Laying.{laid-attached, laid-met}

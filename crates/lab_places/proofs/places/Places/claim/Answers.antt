@@ -1,5 +1,4 @@
-use Rattle.std.proofs.Common.{sym, subst}
-use Rattle.lab_places.specs.Held.{IsClaimed, shares_of}
+use Rattle.lab_places.specs.Prelude.{subst, sym, IsClaimed, shares_of}
 use Rattle.lab_places.proofs.Claiming.{claim-is}
 use Rattle.lab_places.proofs.places.Places.claim.Goals as goal
 

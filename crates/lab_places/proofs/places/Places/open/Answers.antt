@@ -1,7 +1,4 @@
-use Rattle.std.proofs.Common.{ℕ, Ok, Err, sym, subst, refl, ◌∙◌}
-use Rattle.dshare.specs.Shared.{StandsFor}
-use Rattle.lab_run.specs.Claims.{with_claim}
-use Rattle.lab_places.specs.Held.{IsClaimed, IsHeldBy, shares_of, share_of}
+use Rattle.lab_places.specs.Prelude.{Err, Ok, refl, subst, sym, ℕ, ◌∙◌, StandsFor, with_claim, IsClaimed, IsHeldBy, share_of, shares_of}
 use Rattle.lab_places.proofs.Opening.{IsLobby-same, Opens-attached, Opens-handed, Opens-undone}
 use Rattle.lab_places.proofs.places.Places.open.Goals as goal
 

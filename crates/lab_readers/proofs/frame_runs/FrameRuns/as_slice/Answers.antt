@@ -1,6 +1,4 @@
-use Rattle.std.proofs.Common.{ap, sym, ◌∙◌}
-use Rattle.lab_run.specs.LabRun.{runs_of}
-use Rattle.lab_readers.specs.FrameRuns.{RunList, frames_of_runs}
+use Rattle.lab_readers.specs.Prelude.{ap, sym, ◌∙◌, runs_of, frames_of_runs, RunList}
 use Rattle.lab_readers.proofs.RunLists.{runs_of-apart}
 use Rattle.lab_readers.proofs.frame_runs.FrameRuns.as_slice.Goals as goal
 

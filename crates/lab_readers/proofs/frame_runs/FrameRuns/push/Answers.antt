@@ -1,8 +1,5 @@
-use Rattle.std.proofs.Common.{◌≡◌, ◌≤◌, ◌+◌, ◌++◌, [], ◌∷◌, List, ℕ, ap, arith, rules, subst, sym, ◌∙◌}
-use Rattle.std.proofs.lemmas.Bool.Decides.{nat_tests}
-use Rattle.std.specs.Prelude.{◌≢◌}
-use Rattle.std.specs.List.{range_with_len}
-use Rattle.lab_readers.specs.FrameRuns.{AreApart, RunList, frames_of_runs}
+use Rattle.lab_readers.specs.Prelude.{ap, arith, List, rules, subst, sym, ℕ, [], ◌++◌, ◌+◌, ◌∙◌, ◌∷◌, ◌≡◌, ◌≢◌, ◌≤◌, nat_tests, range_with_len, AreApart}
+use Rattle.lab_readers.specs.Prelude.{frames_of_runs, RunList}
 use Rattle.lab_readers.proofs.RunLists.{apart-longer, apart-more, frames_of_runs-longer}
 use Rattle.lab_readers.proofs.frame_runs.FrameRuns.push.Goals as goal
 

@@ -1,17 +1,8 @@
-use Rattle.std.proofs.Common.{◌≡◌, ℕ, List, [], ◌∷◌, ◌++◌, ap, arith, refl, subst, sym, ◌∙◌}
-use Rattle.std.specs.Prelude.{◌-◌, Some}
-use Rattle.std.specs.List.{range_with_len}
-use Rattle.lab_lines.specs.declared.line.Actor.TheVariants as actor
-use Rattle.lab_lines.specs.declared.row.Row.{Row}
-use Rattle.lab_run.specs.Reader.{frames_by}
-use Rattle.lab_run.specs.ReaderAtPort.{IsReaderLine}
-use Rattle.lab_readers.specs.declared.lines.ReaderActor.{ReaderActor}
-use Rattle.lab_readers.specs.FrameRuns.{frames_of_runs}
-use Rattle.lab_readers.specs.Parts.{reader_of}
-use Rattle.lab_actors.specs.Countdown.{at_gate_of, by_gate_of, left_of}
-use Rattle.lab_actors.specs.GateLaws.{both}
+use Rattle.lab_readers.specs.Prelude.{ap, arith, List, refl, subst, sym, ℕ, [], ◌++◌, ◌∙◌, ◌∷◌, ◌≡◌, range_with_len, Some, ◌-◌, Row, frames_by, IsReaderLine}
+use Rattle.lab_readers.specs.Prelude.{at_gate_of, by_gate_of, left_of, both, ReaderActor, frames_of_runs, reader_of}
 use Rattle.lab_readers.proofs.Called.{frames_by-count}
 use Rattle.lab_readers.proofs.PartLaws.{HasGot-line}
+use Rattle.lab_lines.specs.declared.line.Actor.TheVariants as actor
 use Rattle.lab_readers.proofs.lines.ReaderActor.do_line.Goals as goal
 
 pub returns : goal.returns

@@ -1,20 +1,13 @@
-use Rattle.std.proofs.Common.{◌≡◌, ℕ, ◌<◌, ◌∙◌, List, ◌≤◌, ap, arith, get_or, length, subst, sym, take}
-use Rattle.std.proofs.lemmas.List.{get_or_default, take_all}
-use Rattle.std.specs.Prelude.{Bool, true, false}
-use Rattle.lab_lines.specs.declared.line.Actor.TheVariants as actor
-use Rattle.lab_lines.specs.declared.line.Line.{Line}
-use Rattle.lab_lines.specs.declared.line.Op.TheVariants as op
-use Rattle.lab_run.specs.Phases.{is_reader, ops_by, played_in}
+use Rattle.lab_readers.specs.Prelude.{ap, arith, get_or, length, List, subst, sym, take, ℕ, ◌<◌, ◌∙◌, ◌≡◌, ◌≤◌, get_or_default, take_all, Bool, false, true}
+use Rattle.lab_readers.specs.Prelude.{Line, is_reader, ops_by, played_in, at_gate_of, by_gate_of, left_of, KeepsGate-joined, KeepsGate-none, both, other-line}
+use Rattle.lab_readers.specs.Prelude.{own-line, channels_of, ReaderPart}
 use Rattle.pcm_stream.specs.declared.setup.Setup.{Setup}
-use Rattle.lab_actors.specs.Countdown.{at_gate_of, by_gate_of, left_of}
-use Rattle.lab_actors.specs.CountdownLaws.{KeepsGate-joined, KeepsGate-none}
-use Rattle.lab_actors.specs.GateLaws.{both}
-use Rattle.lab_actors.specs.LineLaws.{other-line, own-line}
-use Rattle.lab_readers.specs.Parts.{ReaderPart, channels_of}
 use Rattle.lab_readers.proofs.AskedFrames.{asked-within}
 use Rattle.lab_readers.proofs.PartLaws.{HasGot-more, HasGot-none, HasRowsFor-next, HasRowsFor-own, ReaderPart-more, ReaderPart-none, line-fits, other-left}
-use Rattle.lab_readers.proofs.lines.ReaderActor.do_lines.Goals as goal
 use Rattle.lab_readers.proofs.lines.ReaderActor.do_lines.Goals.{else-is_of, then-is_of}
+use Rattle.lab_lines.specs.declared.line.Actor.TheVariants as actor
+use Rattle.lab_lines.specs.declared.line.Op.TheVariants as op
+use Rattle.lab_readers.proofs.lines.ReaderActor.do_lines.Goals as goal
 
 pub loop-index-init : goal.loop-index-init
 loop-index-init g c = record {

@@ -1,8 +1,5 @@
-use Rattle.std.proofs.Common.{drop, length, take}
-use Rattle.dsnoop_client.specs.View.{CanUse}
-use Rattle.lab_run.specs.Phases.{is_reader, ops_by, played_in}
-use Rattle.lab_actors.specs.Countdown.{KeepsGate, at_gate_of, by_gate_of, left_of}
-use Rattle.lab_readers.specs.Parts.{HasGot, HasRowsFor, ReaderPart}
+use Rattle.lab_readers.specs.Prelude.{drop, length, take, CanUse, is_reader, ops_by, played_in, at_gate_of, by_gate_of, KeepsGate, left_of, HasGot, HasRowsFor}
+use Rattle.lab_readers.specs.Prelude.{ReaderPart}
 use Rattle.lab_readers.proofs.lines.ReaderActor.do_lines.Given as goal
 
 abbrev pub invariant-loop-index : goal.invariant-loop-index

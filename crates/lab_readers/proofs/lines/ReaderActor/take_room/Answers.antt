@@ -1,6 +1,4 @@
-use Rattle.std.specs.Prelude.{ℕ, ◌≤◌}
-use Rattle.std.proofs.Common.{rules, subst}
-use Rattle.lab_actors.specs.Room.{HasSpace}
+use Rattle.lab_readers.specs.Prelude.{rules, subst, ℕ, ◌≤◌, HasSpace}
 use Rattle.lab_readers.proofs.lines.ReaderActor.take_room.Goals as goal
 
 pub returns-clause-room : goal.returns-clause-room

@@ -1,7 +1,4 @@
-use Rattle.std.specs.Vec.{with_item}
-use Rattle.std.proofs.Common.{refl, subst, sym}
-use Rattle.lab_readers.specs.declared.readers.LabReaders.{LabReaders}
-use Rattle.lab_readers.specs.AtStage.{IsOfRing}
+use Rattle.lab_readers.specs.Prelude.{refl, subst, sym, with_item, LabReaders, IsOfRing}
 use Rattle.lab_readers.proofs.OpeningLaws.{closed-after}
 use Rattle.lab_readers.proofs.readers.LabReaders.close.Goals as goal
 

@@ -1,5 +1,4 @@
-use Rattle.lab_actors.specs.Walks.{AreEach-ended, HasWalked-read}
-use Rattle.lab_card.specs.MeetLaws.{IsSameCard-joined}
+use Rattle.lab_readers.specs.Prelude.{IsSameCard-joined, AreEach-ended, HasWalked-read}
 use Rattle.lab_readers.proofs.readers.LabReaders.hear.Goals as goal
 
 pub loop-index-preserved : goal.loop-index-preserved

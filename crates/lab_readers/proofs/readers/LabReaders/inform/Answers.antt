@@ -1,11 +1,6 @@
-use Rattle.std.proofs.Common.{arith, subst, sym}
-use Rattle.lab_actors.specs.Walks.{AreEach-ended, HasWalked-read, HasWalked-still}
-use Rattle.lab_card.specs.MeetLaws.{IsSameCard-joined}
-use Rattle.lab_readers.specs.declared.reader.LabReader.{LabReader}
-use Rattle.lab_readers.specs.AtStage.{readers_of}
-use Rattle.lab_readers.specs.OneReader.{IsOfCard}
+use Rattle.lab_readers.specs.Prelude.{arith, subst, sym, IsSameCard-joined, AreEach-ended, HasWalked-read, HasWalked-still, LabReader, readers_of, IsOfCard}
+use Rattle.lab_readers.specs.Prelude.{IsInformedBy}
 use Rattle.lab_readers.specs.OneReaderLaws.{IsOfCard-same}
-use Rattle.lab_readers.specs.Steps.{IsInformedBy}
 use Rattle.lab_readers.proofs.readers.LabReaders.inform.Goals as goal
 
 pub inform-requires : goal.inform-requires

@@ -1,8 +1,4 @@
-use Rattle.std.proofs.Common.{◌≡◌}
-use Rattle.lab_actors.specs.Walks.{HasWalked}
-use Rattle.lab_card.specs.Meets.{IsSameCard}
-use Rattle.lab_readers.specs.AtStage.{readers_of, spare_of}
-use Rattle.lab_readers.specs.Steps.{IsInformedBy}
+use Rattle.lab_readers.specs.Prelude.{◌≡◌, IsSameCard, HasWalked, readers_of, spare_of, IsInformedBy}
 use Rattle.lab_readers.proofs.readers.LabReaders.inform.Given as goal
 
 abbrev pub invariant-loop-index : goal.invariant-loop-index

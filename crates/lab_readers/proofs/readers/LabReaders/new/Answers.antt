@@ -1,5 +1,4 @@
-use Rattle.lab_readers.specs.declared.readers.LabReaders.{LabReaders}
-use Rattle.lab_readers.specs.Opening.{AreAt-new}
+use Rattle.lab_readers.specs.Prelude.{LabReaders, AreAt-new}
 use Rattle.lab_readers.proofs.readers.LabReaders.new.Goals as goal
 
 pub returns-clause-first : goal.returns-clause-first

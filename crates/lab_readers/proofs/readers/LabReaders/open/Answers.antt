@@ -1,12 +1,6 @@
-use Rattle.std.proofs.Common.{◌≡◌, ◌∙◌, ap, refl, slice_set}
-use Rattle.std.proofs.lemmas.List.{set-get_or}
+use Rattle.lab_readers.specs.Prelude.{ap, refl, slice_set, ◌∙◌, ◌≡◌, set-get_or, option_copied, with_item, LabReaders, readers_of, IsLaterSpare-same}
+use Rattle.lab_readers.specs.Prelude.{AreAt-same}
 use Rattle.std.proofs.lemmas.Result.{on_err_weaker}
-use Rattle.std.specs.Option.{option_copied}
-use Rattle.std.specs.Vec.{with_item}
-use Rattle.lab_readers.specs.declared.readers.LabReaders.{LabReaders}
-use Rattle.lab_readers.specs.AtStage.{readers_of}
-use Rattle.lab_readers.specs.Kept.{IsLaterSpare-same}
-use Rattle.lab_readers.specs.Opening.{AreAt-same}
 use Rattle.lab_readers.proofs.OpeningLaws.{opened-ok}
 use Rattle.lab_readers.proofs.readers.LabReaders.open.Goals as goal
 

@@ -1,6 +1,4 @@
-use Rattle.std.proofs.Common.{ap, map, ◌++◌, ◌∙◌, ℤ}
-use Rattle.std.specs.Global.{Vec}
-use Rattle.lab_readers.specs.End.{recorded_from-at}
+use Rattle.lab_readers.specs.Prelude.{ap, map, ◌++◌, ◌∙◌, Vec, ℤ, recorded_from-at}
 use Rattle.lab_readers.proofs.readers.LabReaders.recorded_into.Goals as goal
 
 pub returns : goal.returns

@@ -1,10 +1,5 @@
-use Rattle.std.proofs.Common.{◌≢◌, ◌<◌, length, refl, slice_set, ◌∙◌, arith}
-use Rattle.std.proofs.lemmas.List.{get_or-set_other}
-use Rattle.lab_actors.specs.Gates.{AsksGateAt-other, AsksGateAt-set}
-use Rattle.lab_actors.specs.Walks.{AreEach-ended, HasWalked-map, HasWalked-none, HasWalked-read}
-use Rattle.lab_readers.specs.AtStage.{readers_of}
-use Rattle.lab_readers.specs.OpenReader.{RunsLines}
-use Rattle.lab_readers.specs.Steps.{RunsAt}
+use Rattle.lab_readers.specs.Prelude.{arith, length, refl, slice_set, ◌<◌, ◌∙◌, ◌≢◌, get_or-set_other, AsksGateAt-other, AsksGateAt-set, AreEach-ended}
+use Rattle.lab_readers.specs.Prelude.{HasWalked-map, HasWalked-none, HasWalked-read, readers_of, RunsLines, RunsAt}
 use Rattle.lab_readers.proofs.readers.LabReaders.run_lines.Goals as goal
 
 pub loop-index-init : goal.loop-index-init

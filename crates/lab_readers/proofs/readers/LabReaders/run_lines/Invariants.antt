@@ -1,7 +1,4 @@
-use Rattle.std.proofs.Common.{◌≡◌, ◌≤◌, ℕ, slice_index_or}
-use Rattle.lab_actors.specs.Walks.{HasWalked}
-use Rattle.lab_readers.specs.AtStage.{readers_of, spare_of}
-use Rattle.lab_readers.specs.Steps.{RunsAt}
+use Rattle.lab_readers.specs.Prelude.{slice_index_or, ℕ, ◌≡◌, ◌≤◌, HasWalked, readers_of, spare_of, RunsAt}
 use Rattle.lab_readers.proofs.readers.LabReaders.run_lines.Given as goal
 
 abbrev pub invariant-loop-index : goal.invariant-loop-index

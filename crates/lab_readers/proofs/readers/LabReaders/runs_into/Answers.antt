@@ -1,7 +1,4 @@
-use Rattle.std.proofs.Common.{List, ap, length, subst, sym, vec_capacity, vec_len, ◌+◌, ◌++◌, ◌≤◌, ◌∙◌}
-use Rattle.std.specs.List.{flat_map}
-use Rattle.lab_readers.specs.declared.reader.LabReader.{LabReader}
-use Rattle.lab_readers.specs.End.{all_runs-at, runs_by}
+use Rattle.lab_readers.specs.Prelude.{ap, length, List, subst, sym, vec_capacity, vec_len, ◌++◌, ◌+◌, ◌∙◌, ◌≤◌, flat_map, LabReader, all_runs-at, runs_by}
 use Rattle.lab_readers.proofs.readers.LabReaders.runs_into.Goals as goal
 
 pub list_runs-requires : goal.list_runs-requires

@@ -1,5 +1,4 @@
-use Rattle.std.proofs.Common.{◌∙◌, ap}
-use Rattle.lab_readers.specs.End.{recorded_by-at, read_samples}
+use Rattle.lab_readers.specs.Prelude.{ap, ◌∙◌, read_samples, recorded_by-at}
 use Rattle.lab_readers.proofs.readers.LabReaders.samples.Goals as goal
 
 pub returns : goal.returns

@@ -1,6 +1,5 @@
-use Rattle.lab_actors.specs.Walks.{AreEach-map, AreEach-part, AreEach-ended, HasWalked-map, HasWalked-read}
-use Rattle.lab_readers.specs.AtStage.{readers_of}
-use Rattle.lab_readers.specs.Steps.{HasTakenRoom, IsSameWithRows, IsSameWithRows-none}
+use Rattle.lab_readers.specs.Prelude.{AreEach-ended, AreEach-map, AreEach-part, HasWalked-map, HasWalked-read, readers_of, HasTakenRoom, IsSameWithRows}
+use Rattle.lab_readers.specs.Prelude.{IsSameWithRows-none}
 use Rattle.lab_readers.proofs.readers.LabReaders.take_room.Goals as goal
 
 pub loop-index-preserved : goal.loop-index-preserved

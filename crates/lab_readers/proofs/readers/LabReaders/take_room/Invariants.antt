@@ -1,7 +1,4 @@
-use Rattle.std.proofs.Common.{◌≡◌}
-use Rattle.lab_actors.specs.Walks.{HasWalked}
-use Rattle.lab_readers.specs.AtStage.{readers_of, spare_of}
-use Rattle.lab_readers.specs.Steps.{HasTakenRoom}
+use Rattle.lab_readers.specs.Prelude.{◌≡◌, HasWalked, readers_of, spare_of, HasTakenRoom}
 use Rattle.lab_readers.proofs.readers.LabReaders.take_room.Given as goal
 
 abbrev pub invariant-loop-index : goal.invariant-loop-index

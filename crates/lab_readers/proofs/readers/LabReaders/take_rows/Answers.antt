@@ -1,11 +1,5 @@
-use Rattle.std.proofs.Common.{◌++◌, ◌∙◌, ap, arith, length, subst, sym}
-use Rattle.lab_actors.specs.Room.{HasSpace}
-use Rattle.lab_actors.specs.Rows.{rows-next, rows-room}
-use Rattle.lab_actors.specs.Walks.{AreEach-ended, HasWalked-read}
-use Rattle.lab_readers.specs.declared.reader.LabReader.{LabReader}
-use Rattle.lab_readers.specs.AtStage.{readers_of}
-use Rattle.lab_readers.specs.OneReader.{rows_of}
-use Rattle.lab_readers.specs.Steps.{HasGivenRows}
+use Rattle.lab_readers.specs.Prelude.{ap, arith, length, subst, sym, ◌++◌, ◌∙◌, HasSpace, rows-next, rows-room, AreEach-ended, HasWalked-read, LabReader}
+use Rattle.lab_readers.specs.Prelude.{readers_of, rows_of, HasGivenRows}
 use Rattle.lab_readers.proofs.readers.LabReaders.take_rows.Goals as goal
 
 pub take_rows-requires : goal.take_rows-requires

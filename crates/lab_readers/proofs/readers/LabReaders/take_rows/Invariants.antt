@@ -1,9 +1,4 @@
-use Rattle.std.proofs.Common.{◌≡◌, ◌++◌, ◌≤◌, take, vec_capacity}
-use Rattle.std.specs.List.{flat_map}
-use Rattle.lab_actors.specs.Walks.{HasWalked}
-use Rattle.lab_readers.specs.AtStage.{readers_of, spare_of}
-use Rattle.lab_readers.specs.OneReader.{rows_of}
-use Rattle.lab_readers.specs.Steps.{HasGivenRows}
+use Rattle.lab_readers.specs.Prelude.{take, vec_capacity, ◌++◌, ◌≡◌, ◌≤◌, flat_map, HasWalked, readers_of, spare_of, rows_of, HasGivenRows}
 use Rattle.lab_readers.proofs.readers.LabReaders.take_rows.Given as goal
 
 abbrev pub invariant-loop-index : goal.invariant-loop-index

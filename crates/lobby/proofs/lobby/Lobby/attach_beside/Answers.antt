@@ -1,8 +1,4 @@
-use Rattle.std.proofs.Common.{◌≡◌, ◌∙◌, Some, ap, subst, sym}
-use Rattle.std.proofs.lemmas.Option.{same_Some}
-use Rattle.lobby.specs.Loads.{HasLoadedBeside}
-use Rattle.lobby.specs.Lobbies.{Attaches}
-use Rattle.lobby.specs.Seats.{lowest_free}
+use Rattle.lobby.specs.Prelude.{ap, Some, subst, sym, ◌∙◌, ◌≡◌, same_Some, HasLoadedBeside, Attaches, lowest_free}
 use Rattle.lobby.proofs.Attaching.{attached, still_free}
 use Rattle.lobby.proofs.lobby.Lobby.attach_beside.Goals as goal
 

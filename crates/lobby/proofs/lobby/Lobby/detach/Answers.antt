@@ -1,5 +1,4 @@
-use Rattle.std.proofs.Common.{◌<◌, length, subst, sym}
-use Rattle.sum_table.specs.Seats.{key_of, ring_of}
+use Rattle.lobby.specs.Prelude.{length, subst, sym, ◌<◌, key_of, ring_of}
 use Rattle.lobby.proofs.Placed.{ArePlaces-set}
 use Rattle.lobby.proofs.lobby.Lobby.detach.Goals as goal
 

@@ -1,7 +1,4 @@
-use Rattle.std.proofs.Common.{◌≡◌, ◌∙◌, Option, None, Some, ap, set, subst, sym}
-use Rattle.sum_table.specs.declared.seats.mix.MixSeat.{MixSeat}
-use Rattle.sum_table.specs.Seats.{key_of, ring_of}
-use Rattle.lobby.specs.Seats.{ArePlaces, lowest_silent, seat_at}
+use Rattle.lobby.specs.Prelude.{ap, None, Option, set, Some, subst, sym, ◌∙◌, ◌≡◌, MixSeat, key_of, ring_of, ArePlaces, lowest_silent, seat_at}
 use Rattle.lobby.proofs.Placed.{ArePlaces-taken, silent-found, silent-given, silent-not_none}
 use Rattle.lobby.proofs.lobby.Lobby.hand_out.Goals as goal
 

@@ -1,6 +1,4 @@
-use Rattle.std.proofs.Common.{◌≡◌, ◌∙◌, Some, refl, sym}
-use Rattle.sum_table.specs.Seats.{key_of, ring_of}
-use Rattle.lobby.specs.Seats.{seat_at}
+use Rattle.lobby.specs.Prelude.{refl, Some, sym, ◌∙◌, ◌≡◌, key_of, ring_of, seat_at}
 use Rattle.lobby.proofs.Attaching.{KeepsLasts-set, laid-loaded}
 use Rattle.lobby.proofs.Loading.{IsPlace-loaded}
 use Rattle.lobby.proofs.Placed.{ArePlaces-set, free-not_none, lowest-found, read_free}

@@ -1,9 +1,6 @@
-use Rattle.std.proofs.Common.{◌+◌, ◌<◌, ◌≡◌, ◌∙◌, ℕ, List, Option, ap, arith, refl, subst, sym}
+use Rattle.lobby.specs.Prelude.{ap, arith, List, Option, refl, subst, sym, ℕ, ◌+◌, ◌<◌, ◌∙◌, ◌≡◌, MixSeat, without_places, places_of_seat, view_of}
 use Rattle.snd_base.specs.Places.{first_frame}
 use Rattle.sum_table.specs.declared.view.Key.{Key}
-use Rattle.sum_table.specs.declared.seats.mix.MixSeat.{MixSeat}
-use Rattle.sum_table.specs.Cuts.{without_places}
-use Rattle.sum_table.specs.Seats.{places_of_seat, view_of}
 use Rattle.lobby.proofs.Splitting.{ArePlaces-split, IsSplitting, IsSplitting-more, IsSplitting-none}
 use Rattle.lobby.proofs.lobby.Lobby.new.Goals as goal
 

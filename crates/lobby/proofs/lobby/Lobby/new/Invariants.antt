@@ -1,5 +1,4 @@
-use Rattle.std.proofs.Common.{◌≤◌, vec_capacity}
-use Rattle.sum_table.specs.Seats.{places_of_seat}
+use Rattle.lobby.specs.Prelude.{vec_capacity, ◌≤◌, places_of_seat}
 use Rattle.lobby.proofs.Splitting.{IsSplitting}
 use Rattle.lobby.proofs.lobby.Lobby.new.Given as goal
 

@@ -1,6 +1,4 @@
-use Rattle.std.proofs.Common.{◌≡◌, ◌∙◌, Some, ap, sym}
-use Rattle.sum_table.specs.Seats.{key_of, ring_of}
-use Rattle.lobby.specs.Seats.{lowest_silent}
+use Rattle.lobby.specs.Prelude.{ap, Some, sym, ◌∙◌, ◌≡◌, key_of, ring_of, lowest_silent}
 use Rattle.lobby.proofs.Placed.{silent-given, silent-not_none}
 use Rattle.lobby.proofs.lobby.Lobby.next_place.Goals as goal
 

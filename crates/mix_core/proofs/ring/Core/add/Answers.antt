@@ -1,15 +1,8 @@
-use Rattle.std.proofs.Common.{◌≡◌, ◌+◌, ◌<◌, length, ◌+ℤ◌, ◌≤ℤ◌, pos, negsuc, subst, sym, ap, ◌∙◌, rules, arith}
-use Rattle.std.proofs.lemmas.Int.{ints, to_z-of_z}
-use Rattle.lap_word.specs.Word.{StandsFor, count_of, lap_of, sum_of}
-use Rattle.mix_core.specs.declared.port.Kind.TheVariants.{Added}
-use Rattle.mix_core.specs.Laid.{marks_with, marks_after, value_of}
-use Rattle.mix_core.specs.Marks.{added_at}
-use Rattle.mix_core.specs.View.{View, marks_at, word_at}
+use Rattle.mix_core.specs.Prelude.{ap, arith, length, negsuc, pos, rules, subst, sym, ◌+ℤ◌, ◌+◌, ◌<◌, ◌∙◌, ◌≡◌, ◌≤ℤ◌, ints, to_z-of_z, w16, SFits, count_of}
+use Rattle.mix_core.specs.Prelude.{lap_of, StandsFor, sum_of, Added, marks_after, marks_with, value_of, added_at, marks_at, View, word_at}
+use Rattle.mix_core.specs.contracts.ring.Core.{the_view}
 use Rattle.mix_core.proofs.Laying.{CanLay, can_add, laid, marks_is, stands_by, value_by, word_is}
 use Rattle.mix_core.proofs.Soundness.{HasRoom, IsSound-laid, room-laid}
-use Rattle.mix_core.specs.contracts.ring.Core.{the_view}
-use mir.Syntax.{w16}
-use mir.Val.{SFits}
 use Rattle.mix_core.proofs.ring.Core.add.Goals as goal
 
 pub add-requires-clause-room : goal.add-requires-clause-room

@@ -1,11 +1,7 @@
-use Rattle.std.proofs.Common.{◌≡◌, ◌≢◌, ◌<◌, ◌≤◌, length, get_or, subst, sym, ◌∙◌, rules, refl, arith}
-use Rattle.std.proofs.lemmas.Bool.Decides.{nat_tests}
-use Rattle.std.proofs.lemmas.List.{get_or_read}
-use Rattle.snd_base.specs.Places.{first_free, lap}
-use Rattle.lap_word.specs.Word.{lap_of}
-use Rattle.mix_core.specs.View.{IsLateWord, IsUntaken, View, word_at}
-use Rattle.mix_core.proofs.Words.{taken-by_lap, untaken-by_lap, word-late}
+use Rattle.mix_core.specs.Prelude.{arith, get_or, length, refl, rules, subst, sym, ◌<◌, ◌∙◌, ◌≡◌, ◌≢◌, ◌≤◌, nat_tests, get_or_read, first_free, lap, lap_of}
+use Rattle.mix_core.specs.Prelude.{IsLateWord, IsUntaken, View, word_at}
 use Rattle.mix_core.specs.contracts.ring.Core.{the_view}
+use Rattle.mix_core.proofs.Words.{taken-by_lap, untaken-by_lap, word-late}
 use Rattle.mix_core.proofs.ring.Core.late_word.Goals as goal
 
 pub returns-then-lap : goal.returns-then-lap

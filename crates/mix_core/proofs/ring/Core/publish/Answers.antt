@@ -1,7 +1,4 @@
-use Rattle.std.proofs.Common.{refl}
-use Rattle.mix_core.specs.Calls.{IsPublished}
-use Rattle.mix_core.specs.View.{View}
-use Rattle.mix_core.specs.Sound.{IsSound}
+use Rattle.mix_core.specs.Prelude.{refl, IsPublished, IsSound, View}
 use Rattle.mix_core.proofs.History.{RepresentsHistory-published}
 use Rattle.mix_core.proofs.ring.Core.publish.Goals as goal
 

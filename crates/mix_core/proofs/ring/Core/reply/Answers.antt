@@ -1,8 +1,4 @@
-use Rattle.std.proofs.Common.{refl, subst, sym}
-use Rattle.mix_core.specs.declared.event.Event.{Event}
-use Rattle.mix_core.specs.declared.event.Event.TheVariants.{Publish, Take}
-use Rattle.mix_core.specs.declared.event.Reply.TheVariants.{Published}
-use Rattle.mix_core.specs.Run.{IsAnswered}
+use Rattle.mix_core.specs.Prelude.{refl, subst, sym, Event, Publish, Take, Published, IsAnswered}
 use Rattle.mix_core.proofs.Replies.{IsReplied-published}
 use Rattle.mix_core.proofs.Standing.{answered-other, keeps-replied, keeps-nothing}
 use Rattle.mix_core.proofs.ring.Core.reply.Goals as goal

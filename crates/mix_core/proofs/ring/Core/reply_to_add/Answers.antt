@@ -1,8 +1,5 @@
-use Rattle.std.proofs.Common.{◌≡◌, ℕ, ◌<◌, sym, ap, refl, ◌∙◌, true, Option, None, Some}
-use Rattle.std.proofs.lemmas.Bool.{false≢true}
-use Rattle.std.specs.Option.{MatchOption, is_some}
-use Rattle.snd_base.specs.Places.{first_free}
-use Rattle.mix_core.specs.View.{IsLateWord, IsUntaken, MayAdd, View}
+use Rattle.mix_core.specs.Prelude.{ap, None, Option, refl, Some, sym, true, ℕ, ◌<◌, ◌∙◌, ◌≡◌, false≢true, is_some, MatchOption, first_free, IsLateWord}
+use Rattle.mix_core.specs.Prelude.{IsUntaken, MayAdd, View}
 use Rattle.mix_core.proofs.Replies.{IsReplied-late, IsReplied-outside, IsReplied-added}
 use Rattle.mix_core.proofs.Standing.{answered-other, keeps-add, keeps-nothing}
 use Rattle.mix_core.proofs.ring.Core.reply_to_add.Goals as goal

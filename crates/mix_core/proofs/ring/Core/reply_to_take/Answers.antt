@@ -1,9 +1,6 @@
-use Rattle.std.proofs.Common.{rules}
-use Rattle.std.proofs.lemmas.Int.{to_z-of_z}
+use Rattle.mix_core.specs.Prelude.{rules, to_z-of_z, w16, SFits}
 use Rattle.mix_core.proofs.Replies.{IsReplied-took}
 use Rattle.mix_core.proofs.ring.Core.reply_to_take.Goals as goal
-use mir.Syntax.{w16}
-use mir.Val.{SFits}
 
 pub returns-in-Ok : goal.returns-in-Ok
 returns-in-Ok c =

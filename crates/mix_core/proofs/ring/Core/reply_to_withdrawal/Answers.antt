@@ -1,13 +1,5 @@
-use Rattle.std.proofs.Common.{◌≡◌, ◌<◌, true, [], subst, sym, ap, ◌∙◌, Option, None, Some, get_or, List, ℕ}
-use Rattle.std.proofs.lemmas.Bool.{false≢true}
-use Rattle.std.specs.Option.{MatchOption, is_some}
-use Rattle.snd_base.specs.Places.{first_free}
-use Rattle.mix_core.specs.declared.port.Entry.{Entry}
-use Rattle.mix_core.specs.declared.port.Kind.{Kind}
-use Rattle.mix_core.specs.Calls.{IsLaidBy}
-use Rattle.mix_core.specs.Laid.{own_entries}
-use Rattle.mix_core.specs.Run.{IsLastOf, MayWithdraw}
-use Rattle.mix_core.specs.View.{IsLateWord, IsUntaken, View}
+use Rattle.mix_core.specs.Prelude.{ap, get_or, List, None, Option, Some, subst, sym, true, ℕ, [], ◌<◌, ◌∙◌, ◌≡◌, false≢true, is_some, MatchOption, first_free}
+use Rattle.mix_core.specs.Prelude.{Entry, Kind, IsLaidBy, own_entries, IsLastOf, MayWithdraw, IsLateWord, IsUntaken, View}
 use Rattle.mix_core.proofs.Standing.{AtLast, answered-in, answered-late, answered-none, answered-outside, at_last}
 use Rattle.mix_core.proofs.ring.Core.reply_to_withdrawal.Goals as goal
 

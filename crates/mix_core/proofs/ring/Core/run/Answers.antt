@@ -1,11 +1,5 @@
-use Rattle.std.proofs.Common.{ℕ, ◌+◌, ◌<◌, List, length, take, set, get_or, subst, sym, ◌∙◌, arith}
-use Rattle.std.specs.List.{zip}
-use Rattle.std.proofs.lemmas.List.{length-set, take_more, take_more_set}
-use Rattle.mix_core.specs.declared.event.Event.{Event}
-use Rattle.mix_core.specs.declared.event.Reply.{Reply}
-use Rattle.mix_core.specs.declared.port.Entry.{Entry}
-use Rattle.mix_core.specs.Run.{IsAnswered, IsRun, KeepsAdds}
-use Rattle.mix_core.specs.View.{View}
+use Rattle.mix_core.specs.Prelude.{arith, get_or, length, List, set, subst, sym, take, ℕ, ◌+◌, ◌<◌, ◌∙◌, length-set, take_more, take_more_set, zip, Event}
+use Rattle.mix_core.specs.Prelude.{Reply, Entry, IsAnswered, IsRun, KeepsAdds, View}
 use Rattle.mix_core.proofs.Replies.{IsRun-more, zip-more}
 use Rattle.mix_core.proofs.ring.Core.run.Goals as goal
 

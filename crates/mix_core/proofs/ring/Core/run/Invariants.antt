@@ -1,7 +1,4 @@
-use Rattle.std.proofs.Common.{◌≡◌, ◌≤◌, length, take}
-use Rattle.std.specs.Prelude.{vec_capacity, vec_len}
-use Rattle.std.specs.List.{zip}
-use Rattle.mix_core.specs.Run.{IsRun, KeepsAdds}
+use Rattle.mix_core.specs.Prelude.{length, take, ◌≡◌, ◌≤◌, zip, vec_capacity, vec_len, IsRun, KeepsAdds}
 use Rattle.mix_core.proofs.ring.Core.run.Given as goal
 
 abbrev pub invariant-loop-i : goal.invariant-loop-i

@@ -1,24 +1,10 @@
-use Rattle.std.proofs.Common.{◌≡◌, ◌≢◌, ℕ, ◌+◌, ◌*◌, ◌<◌, ◌≤◌, List, length, get_or, ℤ, pos, subst, sym, ap, ◌∙◌, rules, refl, arith}
-use Rattle.std.proofs.Math.Nat.{div-lt_iff_lt-mul}
-use Rattle.std.proofs.lemmas.Int.{to_z-of_z}
-use Rattle.std.proofs.lemmas.List.{get_or_read}
-use Rattle.snd_base.specs.declared.geometry.Geometry.{Geometry}
-use Rattle.snd_base.specs.Places.{end_frame, lap, word_index}
-use Rattle.lap_word.specs.Clamp.{clamp_of}
-use Rattle.lap_word.specs.Word.{StandsFor, StandsFor-fields, lap_of, sum_of}
-use Rattle.mix_core.specs.Calls.{IsRefused, IsTaken}
-use Rattle.mix_core.specs.History.{Row, laid_of}
-use Rattle.mix_core.specs.Laid.{total}
-use Rattle.mix_core.specs.Sound.{IsSound}
-use Rattle.mix_core.specs.Stands.{RepresentsHistory}
-use Rattle.mix_core.specs.View.{View, word_at}
-use Rattle.mix_core.specs.Written.{IsNow-next}
+use Rattle.mix_core.specs.Prelude.{ap, arith, get_or, length, List, pos, refl, rules, subst, sym, ℕ, ℤ, ◌*◌, ◌+◌, ◌<◌, ◌∙◌, ◌≡◌, ◌≢◌, ◌≤◌, div-lt_iff_lt-mul}
+use Rattle.mix_core.specs.Prelude.{to_z-of_z, get_or_read, w16, w32, SFits, Geometry, end_frame, lap, word_index, clamp_of, lap_of, StandsFor, StandsFor-fields}
+use Rattle.mix_core.specs.Prelude.{sum_of, IsRefused, IsTaken, laid_of, Row, total, IsSound, RepresentsHistory, View, word_at, IsNow-next}
+use Rattle.mix_core.specs.contracts.ring.Core.{the_view}
 use Rattle.mix_core.proofs.Agreement.{taken_view}
 use Rattle.mix_core.proofs.History.{RepresentsHistory-refused, RepresentsHistory-taken}
 use Rattle.mix_core.proofs.Soundness.{IsSound-taken}
-use Rattle.mix_core.specs.contracts.ring.Core.{the_view}
-use mir.Syntax.{w16, w32}
-use mir.Val.{SFits}
 use Rattle.mix_core.proofs.ring.Core.take.Goals as goal
 
 -- no frame up to the end has a lap past the last

@@ -1,6 +1,4 @@
-use Rattle.std.proofs.Common.{refl, true}
-use Rattle.mix_core.specs.Calls.{IsUnplugged}
-use Rattle.mix_core.specs.View.{View}
+use Rattle.mix_core.specs.Prelude.{refl, true, IsUnplugged, View}
 use Rattle.mix_core.proofs.History.{RepresentsHistory-unplugged}
 use Rattle.mix_core.proofs.ring.Core.unplug.Goals as goal
 

@@ -1,14 +1,6 @@
-use Rattle.std.proofs.Common.{◌+◌, refl, ◌∙◌, ap}
-use Rattle.std.proofs.lemmas.Int.{to_z-of_z}
-use Rattle.std.proofs.lemmas.Result.{err_from_is_err_and}
-use Rattle.mix_core.specs.Calls.{IsLaidBy}
-use Rattle.mix_core.specs.HeldLaws.{TurnLaid-one, may_in-add}
-use Rattle.mix_core.specs.Laid.{an_add}
-use Rattle.mix_core.specs.Turn.{core_of}
-use Rattle.mix_core.specs.TurnLaws.{TurnLaid-composes, TurnLaid-late}
+use Rattle.mix_core.specs.Prelude.{ap, refl, ◌+◌, ◌∙◌, to_z-of_z, err_from_is_err_and, w16, SFits, IsLaidBy, may_in-add, TurnLaid-one, an_add, core_of}
+use Rattle.mix_core.specs.Prelude.{TurnLaid-composes, TurnLaid-late}
 use Rattle.mix_core.proofs.Turning.{lays-late, lays-unmade, lays-unseen, lays-whole}
-use mir.Syntax.{w16}
-use mir.Val.{SFits}
 use Rattle.mix_core.proofs.turn.TurnMixPort.place.Goals as goal
 
 pub returns-in_err-ask-clause-step : goal.returns-in_err-ask-clause-step

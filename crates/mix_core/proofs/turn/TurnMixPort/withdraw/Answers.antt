@@ -1,13 +1,6 @@
-use Rattle.std.proofs.Common.{◌+◌, refl, ◌∙◌, ap}
-use Rattle.std.proofs.lemmas.Int.{to_z-of_z}
-use Rattle.std.proofs.lemmas.Result.{err_from_is_err_and}
-use Rattle.mix_core.specs.Calls.{IsLaidBy}
-use Rattle.mix_core.specs.HeldLaws.{TurnLaid-one, held-place, may_in-back, missed-back}
-use Rattle.mix_core.specs.Laid.{a_withdrawal}
-use Rattle.mix_core.specs.Turn.{core_of}
+use Rattle.mix_core.specs.Prelude.{ap, refl, ◌+◌, ◌∙◌, to_z-of_z, err_from_is_err_and, w16, SFits, IsLaidBy, held-place, may_in-back, missed-back, TurnLaid-one}
+use Rattle.mix_core.specs.Prelude.{a_withdrawal, core_of}
 use Rattle.mix_core.proofs.Turning.{lays-late, lays-unmade, lays-unseen, lays-whole}
-use mir.Syntax.{w16}
-use mir.Val.{SFits}
 use Rattle.mix_core.proofs.turn.TurnMixPort.withdraw.Goals as goal
 
 pub returns-in_err-ask-clause-step : goal.returns-in_err-ask-clause-step

@@ -1,8 +1,5 @@
 -- An integer interval gets closed ends, and another is integer where it is a point.
-use Rattle.std.specs.Prelude.{Bool}
-use Rattle.std.proofs.Common.{ap, sym, ◌∙◌}
-use Rattle.pcm_interval.specs.declared.interval.Interval.{Interval}
-use Rattle.pcm_interval.specs.IntervalLaws.{is_point-ends, normal_form-fraction, normal_form-integer}
+use Rattle.pcm_interval.specs.Prelude.{ap, sym, ◌∙◌, Bool, Interval, is_point-ends, normal_form-fraction, normal_form-integer}
 use Rattle.pcm_interval.proofs.interval.Interval.normal_form.Goals as goal
 
 pub returns-then-self : goal.returns-then-self

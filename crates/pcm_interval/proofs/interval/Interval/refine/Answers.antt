@@ -1,10 +1,7 @@
 -- What the refinement leaves is the normal form of the common part.
-use Rattle.std.specs.Prelude.{◌≡◌, refl}
-use Rattle.std.proofs.Common.{ap, sym, subst, ◌∙◌}
+use Rattle.pcm_interval.specs.Prelude.{ap, subst, sym, ◌∙◌, refl, ◌≡◌, Interval, refined-empty, refined-IsMember, common_part, is_empty, IsEmpty, IsMember}
+use Rattle.pcm_interval.specs.Prelude.{IsNonEmpty, normal_form, refinement}
 use Rattle.std.proofs.lemmas.Bool.{both_ways}
-use Rattle.pcm_interval.specs.declared.interval.Interval.{Interval}
-use Rattle.pcm_interval.specs.Intervals.{is_empty, IsEmpty, IsNonEmpty, IsMember, common_part, normal_form, refinement}
-use Rattle.pcm_interval.specs.IntervalLaws.{refined-empty, refined-IsMember}
 use Rattle.pcm_interval.proofs.interval.Interval.refine.Goals as goal
 
 -- what is left after both steps

@@ -1,6 +1,4 @@
-use Rattle.std.proofs.Common.{◌+◌, ◌++◌, ◌∙◌, List, ℕ, ap, append_assoc, arith, length, take}
-use Rattle.std.proofs.lemmas.List.{take-append-drop}
-use Rattle.plug_chain.specs.Held.{part_bytes}
+use Rattle.plug_chain.specs.Prelude.{ap, append_assoc, arith, length, List, take, ℕ, ◌++◌, ◌+◌, ◌∙◌, take-append-drop, part_bytes}
 use Rattle.plug_chain.proofs.converter.Converter.fill.Goals as goal
 
 pub overflow_sub-missing : goal.overflow_sub-missing

@@ -1,12 +1,5 @@
-use Rattle.std.proofs.Common.{◌<◌, sym, ◌≡◌, ◌≤◌, ℕ, suc, ◌+◌, ◌-◌, ◌*◌, arith, rules, [], ◌∷◌, ◌++◌, ap, ◌∙◌, FitsSigned, length, length-drop, take, drop}
-use Rattle.std.proofs.Math.ListN.{set, length-set}
-use Rattle.std.proofs.Math.Seq.{take-length, take-suc-set}
-use Rattle.std.proofs.lemmas.List.{append-nil}
-use Rattle.std.proofs.lemmas.Int.{to_z-of_z}
-use Rattle.std.specs.Int.{w16}
-use Rattle.plug_chain.specs.Frames.{samples_in}
-use Rattle.plug_chain.specs.Held.{samples_of}
-use Rattle.plug_chain.specs.Samples.{bytes_of, wide_sample}
+use Rattle.plug_chain.specs.Prelude.{ap, arith, drop, FitsSigned, length, length-drop, rules, suc, sym, take, ℕ, [], ◌*◌, ◌++◌, ◌+◌, ◌-◌, ◌<◌, ◌∙◌, ◌∷◌, ◌≡◌}
+use Rattle.plug_chain.specs.Prelude.{◌≤◌, length-set, set, take-length, take-suc-set, to_z-of_z, append-nil, w16, samples_in, samples_of, bytes_of, wide_sample}
 use Rattle.plug_chain.proofs.Reached.{samples_in-step}
 use Rattle.plug_chain.proofs.converter.Converter.read.Goals as goal
 

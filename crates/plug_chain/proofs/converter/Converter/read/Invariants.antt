@@ -1,7 +1,4 @@
-use Rattle.std.proofs.Common.{◌≡◌, ◌*◌, ◌-◌, ◌++◌, length, take}
-use Rattle.plug_chain.specs.Frames.{samples_in}
-use Rattle.plug_chain.specs.Held.{samples_of}
-use Rattle.plug_chain.specs.Samples.{bytes_of}
+use Rattle.plug_chain.specs.Prelude.{length, take, ◌*◌, ◌++◌, ◌-◌, ◌≡◌, samples_in, samples_of, bytes_of}
 use Rattle.plug_chain.proofs.converter.Converter.read.Given as goal
 
 abbrev pub invariant-loop-channel : goal.invariant-loop-channel

@@ -1,7 +1,4 @@
-use Rattle.std.proofs.Common.{ap, subst, arith, length, []}
-use Rattle.plug_chain.specs.Held.{samples_of}
-use Rattle.plug_chain.specs.Rates.{IsRateAt, IsCourse}
-use Rattle.plug_chain.specs.Views.{conversion_of}
+use Rattle.plug_chain.specs.Prelude.{ap, arith, length, subst, [], samples_of, IsCourse, IsRateAt, conversion_of}
 use Rattle.plug_chain.proofs.Stages.{HasTakenBytes-none, frame_bytes-some}
 use Rattle.plug_chain.proofs.converter.Converter.start.Goals as goal
 

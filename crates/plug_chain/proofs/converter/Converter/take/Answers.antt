@@ -1,12 +1,7 @@
-use Rattle.std.proofs.Common.{◌≡◌, ◌<◌, refl, ap, sym, subst, ◌∙◌, arith, length, [], ◌∷◌, ◌++◌, ℕ, List}
-use Rattle.std.proofs.lemmas.Bool.Decides.{nat_tests}
-use Rattle.std.proofs.lemmas.List.{append-nil, nil_from_length}
-use Rattle.plug_chain.specs.Courses.{Advances}
-use Rattle.plug_chain.specs.Frames.{frame_bytes, frame_from_bytes}
-use Rattle.plug_chain.specs.Held.{part_bytes}
-use Rattle.plug_chain.specs.Views.{conversion_of}
-use Rattle.plug_chain.proofs.Stages.{Continues-full, Continues-short, Continues-whole, on_ok_both, IsStage-empty, IsStage-part, OnOk-err}
+use Rattle.plug_chain.specs.Prelude.{ap, arith, length, List, refl, subst, sym, ℕ, [], ◌++◌, ◌<◌, ◌∙◌, ◌∷◌, ◌≡◌, nat_tests, append-nil, nil_from_length}
+use Rattle.plug_chain.specs.Prelude.{Advances, frame_bytes, frame_from_bytes, part_bytes, conversion_of}
 use Rattle.plug_chain.proofs.Courses.{Extends-refl, Extends-trans}
+use Rattle.plug_chain.proofs.Stages.{Continues-full, Continues-short, Continues-whole, on_ok_both, IsStage-empty, IsStage-part, OnOk-err}
 use Rattle.plug_chain.proofs.converter.Converter.take.Goals as goal
 
 pub returns-then-is_empty : goal.returns-then-is_empty

@@ -1,9 +1,4 @@
-use Rattle.std.proofs.Common.{◌≡◌, ap, ◌∙◌, length, pos}
-use Rattle.std.proofs.lemmas.List.{length-replicate}
-use Rattle.plug_chain.specs.Frames.{frame_from_bytes}
-use Rattle.plug_chain.specs.Held.{samples_of}
-use Rattle.plug_chain.specs.Tables.{output_samples}
-use Rattle.plug_chain.specs.Views.{conversion_of}
+use Rattle.plug_chain.specs.Prelude.{ap, length, pos, ◌∙◌, ◌≡◌, length-replicate, frame_from_bytes, samples_of, output_samples, conversion_of}
 use Rattle.plug_chain.proofs.Stages.{length-output_samples, length-samples_in}
 use Rattle.plug_chain.proofs.converter.Converter.take_frame.Goals as goal
 

@@ -1,8 +1,5 @@
-use Rattle.std.proofs.Common.{◌≡◌, ◌≤◌, ◌<◌, ap, sym, subst, ◌∙◌, arith, length, take, drop, [], ◌∷◌, List, ℕ}
-use Rattle.std.proofs.lemmas.Result.{err_from_is_err_and}
-use Rattle.plug_chain.specs.Courses.{Advances}
-use Rattle.plug_chain.specs.Frames.{frame_bytes, frame_from_bytes, rest_of}
-use Rattle.plug_chain.specs.Views.{conversion_of}
+use Rattle.plug_chain.specs.Prelude.{ap, arith, drop, length, List, subst, sym, take, ℕ, [], ◌<◌, ◌∙◌, ◌∷◌, ◌≡◌, ◌≤◌, err_from_is_err_and, Advances}
+use Rattle.plug_chain.specs.Prelude.{frame_bytes, frame_from_bytes, rest_of, conversion_of}
 use Rattle.plug_chain.proofs.Courses.{Extends-trans}
 use Rattle.plug_chain.proofs.Cuts.{rest_of-more, rest_of-short}
 use Rattle.plug_chain.proofs.Reached.{HasReached, HasReached-end, HasReached-more}

@@ -1,9 +1,4 @@
-use Rattle.std.proofs.Common.{◌≡◌, List, length, ℤ}
-use Rattle.plug_chain.specs.Frames.{rest_of}
-use Rattle.plug_chain.specs.Growth.{Extends}
-use Rattle.plug_chain.specs.Held.{samples_of}
-use Rattle.plug_chain.specs.Rates.{IsRateAt, IsCourse}
-use Rattle.plug_chain.specs.Views.{conversion_of}
+use Rattle.plug_chain.specs.Prelude.{length, List, ℤ, ◌≡◌, rest_of, Extends, samples_of, IsCourse, IsRateAt, conversion_of}
 use Rattle.plug_chain.proofs.Reached.{HasReached}
 use Rattle.plug_chain.proofs.converter.Converter.take_frames.Given as goal
 

@@ -1,7 +1,4 @@
-use Rattle.std.proofs.Common.{◌≡◌, ap, ◌∙◌, arith, length, ◌++◌, ℕ, List}
-use Rattle.plug_chain.specs.Frames.{rest_of}
-use Rattle.plug_chain.specs.Held.{part_bytes}
-use Rattle.plug_chain.specs.Views.{conversion_of}
+use Rattle.plug_chain.specs.Prelude.{ap, arith, length, List, ℕ, ◌++◌, ◌∙◌, ◌≡◌, rest_of, part_bytes, conversion_of}
 use Rattle.plug_chain.proofs.Cuts.{length-rest_of}
 use Rattle.plug_chain.proofs.Stages.{frame_bytes-few, frame_bytes-some}
 use Rattle.plug_chain.proofs.converter.Converter.take_whole.Goals as goal

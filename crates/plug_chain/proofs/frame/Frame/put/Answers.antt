@@ -1,7 +1,4 @@
-use Rattle.std.proofs.Common.{◌≡◌, ℕ, zero, suc, ℤ, List, [], ◌∷◌, take, refl, ap, ◌∙◌}
-use Rattle.std.proofs.Math.ListN.{set}
-use Rattle.std.proofs.lemmas.Int.{to_z-of_z}
-use Rattle.std.specs.Int.{w16}
+use Rattle.plug_chain.specs.Prelude.{ap, List, refl, suc, take, zero, ℕ, ℤ, [], ◌∙◌, ◌∷◌, ◌≡◌, set, to_z-of_z, w16}
 use Rattle.plug_chain.proofs.frame.Frame.put.Goals as goal
 
 -- the front of a list with one element written

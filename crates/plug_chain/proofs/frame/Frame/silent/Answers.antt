@@ -1,5 +1,4 @@
-use Rattle.std.proofs.Common.{pos}
-use Rattle.std.proofs.lemmas.List.{take-replicate}
+use Rattle.plug_chain.specs.Prelude.{pos, take-replicate}
 use Rattle.plug_chain.proofs.frame.Frame.silent.Goals as goal
 
 pub returns : goal.returns

@@ -1,8 +1,4 @@
-use Rattle.std.proofs.Common.{◌≡◌, ℕ, length, ◌*◌, ◌/◌, ap, sym, subst, ◌∙◌}
-use Rattle.plug_chain.specs.Frames.{Conversion, frame_bytes}
-use Rattle.plug_chain.specs.Plugs.{Stage, plug_of}
-use Rattle.plug_chain.specs.Rates.{output_count}
-use Rattle.plug_chain.specs.Views.{conversion_of}
+use Rattle.plug_chain.specs.Prelude.{ap, length, subst, sym, ℕ, ◌*◌, ◌/◌, ◌∙◌, ◌≡◌, Conversion, frame_bytes, plug_of, Stage, output_count, conversion_of}
 use Rattle.plug_chain.proofs.Lengths.{length-plug_of}
 use Rattle.plug_chain.proofs.plug.Plug.converted_len.Goals as goal
 

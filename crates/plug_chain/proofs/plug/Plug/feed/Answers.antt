@@ -1,6 +1,4 @@
-use Rattle.std.proofs.Common.{arith, refl, subst}
-use Rattle.plug_chain.specs.Plugs.{Continues, Stage}
-use Rattle.plug_chain.specs.Views.{stage_of}
+use Rattle.plug_chain.specs.Prelude.{arith, refl, subst, Continues, Stage, stage_of}
 use Rattle.plug_chain.proofs.Courses.{Extends-cut}
 use Rattle.plug_chain.proofs.plug.Plug.feed.Goals as goal
 

@@ -1,5 +1,4 @@
-use Rattle.std.proofs.Common.{arith, subst}
-use Rattle.plug_chain.specs.Plugs.{Completes, Stage}
+use Rattle.plug_chain.specs.Prelude.{arith, subst, Completes, Stage}
 use Rattle.plug_chain.proofs.Courses.{Extends-cut}
 use Rattle.plug_chain.proofs.Stages.{Completes-ends, IsStage-course}
 use Rattle.plug_chain.proofs.plug.Plug.finish.Goals as goal

@@ -1,7 +1,4 @@
-use Rattle.std.proofs.Common.{◌≡◌, ◌≤◌, ◌+◌, ◌-◌, ◌++◌, [], ◌∷◌, refl, ap, ◌∙◌, arith, length}
-use Rattle.std.proofs.lemmas.Result.{err_from_is_err_and}
-use Rattle.plug_chain.specs.Held.{samples_of}
-use Rattle.plug_chain.specs.Rates.{frame_between}
+use Rattle.plug_chain.specs.Prelude.{ap, arith, length, refl, [], ◌++◌, ◌+◌, ◌-◌, ◌∙◌, ◌∷◌, ◌≡◌, ◌≤◌, err_from_is_err_and, samples_of, frame_between}
 use Rattle.plug_chain.proofs.Courses.{Extends-refl, Extends-trans, IsAdvance-one, IsUnderway-more, IsUnderway-start}
 use Rattle.plug_chain.proofs.Places.{output_frame-next}
 use Rattle.plug_chain.proofs.rates.Rates.advance.Goals as goal

@@ -1,6 +1,4 @@
-use Rattle.std.proofs.Common.{◌≡◌, ◌+◌, ◌++◌, ap, ◌∙◌, arith, length}
-use Rattle.std.proofs.lemmas.Result.{err_from_is_err_and}
-use Rattle.plug_chain.specs.Held.{samples_of}
+use Rattle.plug_chain.specs.Prelude.{ap, arith, length, ◌++◌, ◌+◌, ◌∙◌, ◌≡◌, err_from_is_err_and, samples_of}
 use Rattle.plug_chain.proofs.Courses.{Appends-end, Extends-more, Extends-refl, Extends-trans, IsUnderway-more, IsUnderway-start}
 use Rattle.plug_chain.proofs.Places.{output_frame-last}
 use Rattle.plug_chain.proofs.rates.Rates.end.Goals as goal

@@ -1,7 +1,4 @@
-use Rattle.std.proofs.Common.{◌<◌, ◌+◌, ◌-◌, List, length, ℤ}
-use Rattle.plug_chain.specs.Growth.{Extends}
-use Rattle.plug_chain.specs.Held.{samples_of}
-use Rattle.plug_chain.specs.Rates.{IsRateAt, IsUnderway}
+use Rattle.plug_chain.specs.Prelude.{length, List, ℤ, ◌+◌, ◌-◌, ◌<◌, Extends, samples_of, IsRateAt, IsUnderway}
 use Rattle.plug_chain.proofs.rates.Rates.end.Given as goal
 
 abbrev pub invariant-loop-place : goal.invariant-loop-place

@@ -1,6 +1,4 @@
-use Rattle.std.proofs.Common.{◌≡◌, ap, ◌∙◌, rules, arith}
-use Rattle.plug_chain.specs.Rates.{frame_between}
-use Rattle.plug_chain.specs.Held.{samples_of}
+use Rattle.plug_chain.specs.Prelude.{ap, arith, rules, ◌∙◌, ◌≡◌, samples_of, frame_between}
 use Rattle.plug_chain.proofs.Lines.{between-whole}
 use Rattle.plug_chain.proofs.rates.Rates.push_frame.Goals as goal
 

@@ -1,12 +1,6 @@
-use Rattle.std.proofs.Common.{◌≡◌, ◌<◌, ℕ, suc, ap, sym, ◌∙◌, arith, rules, length, map, take, [], ◌∷◌, ◌++◌, ◌+◌, FitsSigned}
-use Rattle.std.proofs.Math.ListN.{set, length-set}
-use Rattle.std.proofs.Math.Seq.{take-length, take-suc-set}
-use Rattle.std.proofs.lemmas.Int.{to_z-of_z}
-use Rattle.std.proofs.lemmas.List.FromFn.{map-range_with_len_more}
-use Rattle.std.specs.Int.{w16}
-use Rattle.std.specs.List.{range_with_len}
-use Rattle.plug_chain.specs.Held.{samples_of}
-use Rattle.plug_chain.specs.Tables.{ChannelTable, output_channel, output_samples}
+use Rattle.plug_chain.specs.Prelude.{ap, arith, FitsSigned, length, map, rules, suc, sym, take, ℕ, [], ◌++◌, ◌+◌, ◌<◌, ◌∙◌, ◌∷◌, ◌≡◌, length-set, set}
+use Rattle.plug_chain.specs.Prelude.{take-length, take-suc-set, to_z-of_z, map-range_with_len_more, w16, range_with_len, samples_of, ChannelTable}
+use Rattle.plug_chain.specs.Prelude.{output_channel, output_samples}
 use Rattle.plug_chain.proofs.table.Table.mix.Goals as goal
 
 pub loop-output-preserved : goal.loop-output-preserved

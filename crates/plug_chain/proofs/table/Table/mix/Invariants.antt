@@ -1,7 +1,4 @@
-use Rattle.std.proofs.Common.{◌≡◌, map, length, take}
-use Rattle.std.specs.List.{range_with_len}
-use Rattle.plug_chain.specs.Held.{samples_of}
-use Rattle.plug_chain.specs.Tables.{output_channel}
+use Rattle.plug_chain.specs.Prelude.{length, map, take, ◌≡◌, range_with_len, samples_of, output_channel}
 use Rattle.plug_chain.proofs.table.Table.mix.Given as goal
 
 abbrev pub invariant-loop-output : goal.invariant-loop-output

@@ -1,9 +1,5 @@
-use Rattle.std.proofs.Common.{◌≡◌, pos, negsuc, ap, ◌∙◌, arith, rules, ◌+◌, ◌*◌, FitsSigned}
-use Rattle.std.proofs.lemmas.Int.{ints, to_z-of_z}
-use Rattle.std.specs.Prelude.{slice_range}
-use Rattle.std.specs.Int.{int_div_euclid, int_max, int_min, w16, w64}
-use mir.Val.{to_z, of_z}
-use Rattle.plug_chain.specs.Tables.{ChannelTable, output_channel, row, weighted_sum}
+use Rattle.plug_chain.specs.Prelude.{ap, arith, FitsSigned, negsuc, pos, rules, ◌*◌, ◌+◌, ◌∙◌, ◌≡◌, ints, to_z-of_z, int_div_euclid, int_max, int_min, w16, w64}
+use Rattle.plug_chain.specs.Prelude.{slice_range, of_z, to_z, ChannelTable, output_channel, row, weighted_sum}
 use Rattle.plug_chain.proofs.Sums.{FitsSigned-sum, saturate_signed-is}
 use Rattle.plug_chain.proofs.table.Table.mix_channel.Goals as goal
 

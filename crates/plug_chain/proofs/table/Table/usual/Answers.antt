@@ -1,11 +1,6 @@
-use Rattle.std.proofs.Common.{◌≡◌, ◌*◌, ℕ, ℤ, ap, sym, subst, ◌∙◌, arith, rules, length, map, All, [], ◌∷◌, ◌++◌, ◌/◌, ◌%◌, FitsSigned}
-use Rattle.std.proofs.lemmas.Int.{to_z-of_z}
+use Rattle.plug_chain.specs.Prelude.{All, ap, arith, FitsSigned, length, map, rules, subst, sym, ℕ, ℤ, [], ◌%◌, ◌*◌, ◌++◌, ◌/◌, ◌∙◌, ◌∷◌, ◌≡◌, to_z-of_z}
+use Rattle.plug_chain.specs.Prelude.{length-map-range_with_len, map-range_with_len_more, err_from_is_err_and, w32, range_with_len, IsWeight, usual_weight}
 use Rattle.std.proofs.lemmas.List.Elements.{All-append, All-cons, All-nil}
-use Rattle.std.proofs.lemmas.List.FromFn.{length-map-range_with_len, map-range_with_len_more}
-use Rattle.std.proofs.lemmas.Result.{err_from_is_err_and}
-use Rattle.std.specs.Int.{w32}
-use Rattle.std.specs.List.{range_with_len}
-use Rattle.plug_chain.specs.Tables.{IsWeight, usual_weight}
 use Rattle.plug_chain.proofs.table.Table.usual.Goals as goal
 
 abbrev weight_at : ℕ → ℕ → ℕ → ℤ

@@ -1,6 +1,4 @@
-use Rattle.std.proofs.Common.{◌≡◌, ◌/◌, ◌%◌, map, All}
-use Rattle.std.specs.List.{range_with_len}
-use Rattle.plug_chain.specs.Tables.{IsWeight, usual_weight}
+use Rattle.plug_chain.specs.Prelude.{All, map, ◌%◌, ◌/◌, ◌≡◌, range_with_len, IsWeight, usual_weight}
 use Rattle.plug_chain.proofs.table.Table.usual.Given as goal
 
 abbrev pub invariant-loop-place : goal.invariant-loop-place

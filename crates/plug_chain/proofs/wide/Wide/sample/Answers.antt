@@ -1,7 +1,4 @@
-use Rattle.std.proofs.Common.{◌≡◌, ap, sym, ◌∙◌, arith, rules, length, FitsSigned}
-use Rattle.std.proofs.lemmas.Int.{to_z-of_z}
-use Rattle.std.specs.Int.{w16}
-use Rattle.plug_chain.specs.Samples.{bytes_of, wide_sample}
+use Rattle.plug_chain.specs.Prelude.{ap, arith, FitsSigned, length, rules, sym, ◌∙◌, ◌≡◌, to_z-of_z, w16, bytes_of, wide_sample}
 use Rattle.plug_chain.proofs.Bytes.{high_bytes-24, high_bytes-32}
 use Rattle.plug_chain.proofs.wide.Wide.sample.Goals as goal
 

@@ -1,10 +1,6 @@
-use Rattle.std.proofs.Common.{◌<◌, List, length, get_or, take, ℤ, pos, arith, sym, subst, rules}
-use Rattle.std.proofs.lemmas.List.{length-take, take_more}
-use Rattle.std.proofs.lemmas.Int.{to_z-of_z}
-use Rattle.snoop_core.specs.Ring.{ArePartStored, IsSampleStored}
+use Rattle.snoop_core.specs.Prelude.{arith, get_or, length, List, pos, rules, subst, sym, take, ℤ, ◌<◌, to_z-of_z, length-take, take_more, w16, SFits}
+use Rattle.snoop_core.specs.Prelude.{ArePartStored, IsSampleStored}
 use Rattle.snoop_core.proofs.Storing.{ArePartStored-more}
-use mir.Syntax.{w16}
-use mir.Val.{SFits}
 use Rattle.snoop_core.proofs.ring.SampleRing.store_frame.Goals as goal
 
 pub loop-sample-preserved : goal.loop-sample-preserved

@@ -1,5 +1,4 @@
-use Rattle.std.proofs.Common.{take}
-use Rattle.snoop_core.specs.Ring.{ArePartStored}
+use Rattle.snoop_core.specs.Prelude.{take, ArePartStored}
 use Rattle.snoop_core.proofs.ring.SampleRing.store_frame.Given as goal
 
 abbrev pub invariant-loop-sample : goal.invariant-loop-sample

@@ -1,12 +1,6 @@
-use Rattle.std.proofs.Common.{◌+◌, ◌<◌}
-use Rattle.std.proofs.lemmas.Int.{to_z-of_z}
-use Rattle.snd_base.specs.Places.{lap}
-use Rattle.snoop_core.specs.Ring.{RingView}
-use Rattle.snoop_core.specs.Word.{HoldsSample}
-use Rattle.snoop_core.proofs.Storing.{IsSampleStored-stored, IsSoundRing-stored}
+use Rattle.snoop_core.specs.Prelude.{◌+◌, ◌<◌, to_z-of_z, w16, SFits, lap, RingView, HoldsSample}
 use Rattle.snoop_core.specs.contracts.ring.SampleRing.{the_view}
-use mir.Syntax.{w16}
-use mir.Val.{SFits}
+use Rattle.snoop_core.proofs.Storing.{IsSampleStored-stored, IsSoundRing-stored}
 use Rattle.snoop_core.proofs.ring.SampleRing.store_sample.Goals as goal
 
 pub invariant_of-self : goal.invariant_of-self

@@ -1,17 +1,8 @@
-use Rattle.std.proofs.Common.{◌≡◌, ◌≢◌, ◌+◌, ◌<◌, replicate, arith, ap, sym, subst, ◌∙◌, rules}
-use Rattle.std.proofs.lemmas.Int.{to_z-of_z}
+use Rattle.snoop_core.specs.Prelude.{ap, arith, replicate, rules, subst, sym, ◌+◌, ◌<◌, ◌∙◌, ◌≡◌, ◌≢◌, to_z-of_z, w16, SFits, Geometry, lap, Go, Look, core_of}
+use Rattle.snoop_core.specs.Prelude.{geometry_of, laps_of}
 use Rattle.std.proofs.lemmas.Result.{err_from_is_err_and}
-use Rattle.snd_base.specs.declared.geometry.Geometry.{Geometry}
-use Rattle.snd_base.specs.Places.{lap}
-use Rattle.mix_core.specs.declared.gate.Pass.TheVariants.{Go}
-use Rattle.mix_core.specs.declared.gate.StepKind.TheVariants.{Look}
 use Rattle.snoop_core.specs.PortLaws.{asked-more}
-use Rattle.snoop_core.specs.Turn.{core_of}
-use Rattle.snoop_core.specs.View.{geometry_of}
-use Rattle.snoop_core.specs.Word.{laps_of}
 use Rattle.snoop_core.proofs.Getting.{IsLoading, gets-overtaken, gets-stopped, gets-whole, loading-more}
-use mir.Syntax.{w16}
-use mir.Val.{SFits}
 use Rattle.snoop_core.proofs.turn.SnoopTurnSnoopPort.load_frame.Goals as goal
 
 pub returns-in_err-ask-clause-step : goal.returns-in_err-ask-clause-step

@@ -1,6 +1,4 @@
-use Rattle.std.proofs.Common.{◌≡◌, replicate}
-use Rattle.mix_core.specs.declared.gate.Pass.TheVariants.{Go}
-use Rattle.mix_core.specs.declared.gate.StepKind.TheVariants.{Look}
+use Rattle.snoop_core.specs.Prelude.{replicate, ◌≡◌, Go, Look}
 use Rattle.snoop_core.proofs.Getting.{IsLoading}
 use Rattle.snoop_core.proofs.turn.SnoopTurnSnoopPort.load_frame.Given as goal
 

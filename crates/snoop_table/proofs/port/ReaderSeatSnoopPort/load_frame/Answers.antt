@@ -1,12 +1,7 @@
-use Rattle.std.proofs.Common.{◌≡◌, ◌≢◌, ◌+◌, ap, sym, ◌∙◌, rules}
-use Rattle.std.proofs.lemmas.Int.{to_z-of_z}
+use Rattle.snoop_table.specs.Prelude.{ap, rules, sym, ◌+◌, ◌∙◌, ◌≡◌, ◌≢◌, to_z-of_z, w16, SFits, lap, laps_of}
 use Rattle.std.proofs.lemmas.Result.{err_from_is_err_and}
-use Rattle.snd_base.specs.Places.{lap}
 use Rattle.snoop_core.specs.PortLaws.{asked-more}
-use Rattle.snoop_core.specs.Word.{laps_of}
 use Rattle.snoop_table.proofs.Fetching.{fetching-more, gets-overtaken, gets-stopped}
-use mir.Syntax.{w16}
-use mir.Val.{SFits}
 use Rattle.snoop_table.proofs.port.ReaderSeatSnoopPort.load_frame.Goals as goal
 
 pub returns-in_err-ask-clause-step : goal.returns-in_err-ask-clause-step

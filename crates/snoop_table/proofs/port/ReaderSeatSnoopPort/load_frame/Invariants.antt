@@ -1,8 +1,5 @@
-use Rattle.std.proofs.Common.{◌≡◌, ◌+◌, replicate}
-use Rattle.mix_core.specs.declared.gate.Pass.TheVariants.{Go}
-use Rattle.mix_core.specs.declared.gate.StepKind.TheVariants.{Look}
-use Rattle.snd_base.specs.Places.{lap}
-use Rattle.ring_rule.specs.Words.{index_of}
+use Rattle.snoop_table.specs.Prelude.{◌+◌, ◌≡◌, lap, Go, Look, index_of}
+use Rattle.std.proofs.Common.{replicate}
 use Rattle.snoop_table.proofs.Fetching.{IsFetching}
 use Rattle.snoop_table.proofs.port.ReaderSeatSnoopPort.load_frame.Given as goal
 

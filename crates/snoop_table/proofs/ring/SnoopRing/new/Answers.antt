@@ -1,6 +1,4 @@
-use Rattle.std.proofs.Common.{◌≡◌, set, ap, ◌∙◌}
-use Rattle.std.proofs.Math.ListN.{replicate}
-use Rattle.ring_rule.specs.Words.{words_of}
+use Rattle.snoop_table.specs.Prelude.{ap, set, ◌∙◌, ◌≡◌, replicate, words_of}
 use Rattle.snoop_table.proofs.Opens.{new_words, opens_at}
 use Rattle.snoop_table.proofs.ring.SnoopRing.new.Goals as goal
 

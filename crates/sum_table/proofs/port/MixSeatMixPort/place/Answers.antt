@@ -1,9 +1,4 @@
-use Rattle.std.proofs.Common.{refl, subst, sym}
-use Rattle.std.proofs.lemmas.Int.{to_z-of_z}
-use mir.Syntax.{w16}
-use Rattle.mix_core.specs.declared.port.Kind.TheVariants.{Added}
-use Rattle.mix_core.specs.Port.{Stays}
-use Rattle.sum_table.specs.Seats.{SeatLaid, SeatLaid-composes, SeatLoaded, SeatLoaded-composes, seat_view}
+use Rattle.sum_table.specs.Prelude.{refl, subst, sym, to_z-of_z, w16, Added, Stays, seat_view, SeatLaid, SeatLaid-composes, SeatLoaded, SeatLoaded-composes}
 use Rattle.sum_table.proofs.Placing.{lays_as}
 use Rattle.sum_table.proofs.port.MixSeatMixPort.place.Goals as goal
 

@@ -1,6 +1,4 @@
-use Rattle.std.proofs.Common.{◌≡◌, set, ap, ◌∙◌}
-use Rattle.std.proofs.Math.ListN.{replicate}
-use Rattle.ring_rule.specs.Words.{words_of}
+use Rattle.sum_table.specs.Prelude.{ap, set, ◌∙◌, ◌≡◌, replicate, words_of}
 use Rattle.sum_table.proofs.Opens.{new_words, opens_at}
 use Rattle.sum_table.proofs.ring.SumRing.new.Goals as goal
 

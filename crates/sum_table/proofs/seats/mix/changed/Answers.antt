@@ -1,8 +1,5 @@
-use Rattle.std.proofs.Common.{◌≡◌, ◌+◌, ◌-◌, ◌*◌, ◌<◌, ◌^◌, ℕ, negsuc, pos, ℤ, ◌+ℤ◌, ◌≤ℤ◌, ◌≤◌, ◌∙◌, ap, arith, subst, sym}
-use Rattle.std.proofs.lemmas.Int.{ints, to_z-of_z}
-use mir.Syntax.{w16, w32}
-use Rattle.lap_word.specs.Word.{StandsFor, count_of, lap_of, sum_of}
-use Rattle.mix_core.specs.Laid.{signed_sample}
+use Rattle.sum_table.specs.Prelude.{ap, arith, negsuc, pos, subst, sym, ℕ, ℤ, ◌*◌, ◌+ℤ◌, ◌+◌, ◌-◌, ◌<◌, ◌^◌, ◌∙◌, ◌≡◌, ◌≤ℤ◌, ◌≤◌, ints, to_z-of_z, w16, w32}
+use Rattle.sum_table.specs.Prelude.{count_of, lap_of, StandsFor, sum_of, signed_sample}
 use Rattle.sum_table.proofs.seats.mix.changed.Goals as goal
 
 -- by how much the word of one sample is more than a silent word

@@ -1,5 +1,4 @@
-use Rattle.std.proofs.Common.{◌≡◌, ap, ◌∙◌, arith, length, take, ◌++◌}
-use Rattle.std.proofs.lemmas.List.{take-append-drop}
+use Rattle.wav_io.specs.Prelude.{ap, arith, length, take, ◌++◌, ◌∙◌, ◌≡◌, take-append-drop}
 use Rattle.wav_io.proofs.Places.{filled}
 use Rattle.wav_io.proofs.kept_bytes.Kept.fill.Goals as goal
 

@@ -1,7 +1,4 @@
-use Rattle.std.proofs.Common.{[], ap, refl}
-use Rattle.wav_io.specs.declared.format.Depths.TheVariants.{UpTo32}
-use Rattle.wav_io.specs.Formats.{IsFormat}
-use Rattle.wav_io.specs.Readers.{Reader, raws, with_bytes}
+use Rattle.wav_io.specs.Prelude.{ap, refl, [], UpTo32, IsFormat, raws, Reader, with_bytes}
 use Rattle.wav_io.proofs.Raws.{some_raw, raw_frame-some}
 use Rattle.wav_io.proofs.Readers.{starved_comes, refused_rest, refused_same, no_data, not_refused, error_of-followed}
 use Rattle.wav_io.proofs.Scans.{refused_comes}

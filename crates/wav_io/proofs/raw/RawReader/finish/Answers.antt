@@ -1,8 +1,4 @@
-use Rattle.std.proofs.Common.{◌≡◌, [], Err, ap, subst}
-use Rattle.std.specs.Prelude.{IfSome}
-use Rattle.wav_io.specs.declared.format.Depths.TheVariants.{UpTo32}
-use Rattle.wav_io.specs.Reading.{contents}
-use Rattle.wav_io.specs.Readers.{Reader, raws, error_of}
+use Rattle.wav_io.specs.Prelude.{ap, Err, subst, [], ◌≡◌, IfSome, UpTo32, error_of, raws, Reader, contents}
 use Rattle.wav_io.proofs.Raws.{ends_raw, raws-frames}
 use Rattle.wav_io.proofs.Readers.{starved_comes, refused_rest, again_from, IfSome-weaker}
 use Rattle.wav_io.proofs.Sizes.{length-raw_file}

@@ -1,6 +1,4 @@
-use Rattle.std.proofs.Common.{◌≡◌, List, [], ℕ, None, subst}
-use Rattle.std.specs.Prelude.{IsOk}
-use Rattle.wav_io.specs.Readers.{IsOfHead, Reader, error_of, raw_to_come}
+use Rattle.wav_io.specs.Prelude.{List, None, subst, ℕ, [], ◌≡◌, IsOk, error_of, IsOfHead, raw_to_come, Reader}
 use Rattle.wav_io.proofs.Raws.{raw_to_come-ends, raw_to_come-head}
 use Rattle.wav_io.proofs.raw.RawReader.head.Goals as goal
 

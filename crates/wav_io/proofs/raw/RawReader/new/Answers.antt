@@ -1,6 +1,4 @@
-use Rattle.std.proofs.Common.{ap}
-use Rattle.wav_io.specs.declared.format.Depths.TheVariants.{UpTo32}
-use Rattle.wav_io.specs.Readers.{raws}
+use Rattle.wav_io.specs.Prelude.{ap, UpTo32, raws}
 use Rattle.wav_io.proofs.Readers.{new_comes}
 use Rattle.wav_io.proofs.raw.RawReader.new.Goals as goal
 

@@ -1,8 +1,4 @@
-use Rattle.std.proofs.Common.{[], ap, refl, arith}
-use Rattle.wav_io.specs.declared.format.Depths.TheVariants.{Sixteen}
-use Rattle.wav_io.specs.Formats.{IsFormat}
-use Rattle.wav_io.specs.Reading.{sounds}
-use Rattle.wav_io.specs.Readers.{Reader, with_samples}
+use Rattle.wav_io.specs.Prelude.{ap, arith, refl, [], Sixteen, IsFormat, Reader, with_samples, sounds}
 use Rattle.wav_io.proofs.Readers.{starved_comes, refused_rest, refused_same, no_data, some_data, not_refused, error_of-followed}
 use Rattle.wav_io.proofs.Scans.{refused_comes}
 use Rattle.wav_io.proofs.reader.WavReader.feed.Goals as goal

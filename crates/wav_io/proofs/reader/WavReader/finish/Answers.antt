@@ -1,8 +1,4 @@
-use Rattle.std.proofs.Common.{◌≡◌, [], Err, ap, subst}
-use Rattle.std.specs.Prelude.{IfSome}
-use Rattle.wav_io.specs.declared.format.Depths.TheVariants.{Sixteen}
-use Rattle.wav_io.specs.Reading.{contents, sounds}
-use Rattle.wav_io.specs.Readers.{Reader, error_of}
+use Rattle.wav_io.specs.Prelude.{ap, Err, subst, [], ◌≡◌, IfSome, Sixteen, error_of, Reader, contents, sounds}
 use Rattle.wav_io.proofs.Readers.{starved_comes, refused_rest, ends_fed, sounds-frames, again_from, IfSome-weaker}
 use Rattle.wav_io.proofs.reader.WavReader.finish.Goals as goal
 

@@ -1,6 +1,4 @@
-use Rattle.std.proofs.Common.{ap}
-use Rattle.wav_io.specs.declared.format.Depths.TheVariants.{Sixteen}
-use Rattle.wav_io.specs.Reading.{sounds}
+use Rattle.wav_io.specs.Prelude.{ap, Sixteen, sounds}
 use Rattle.wav_io.proofs.Readers.{new_comes}
 use Rattle.wav_io.proofs.reader.WavReader.new.Goals as goal
 

@@ -1,8 +1,4 @@
-use Rattle.std.proofs.Common.{◌++◌, sym, ap, subst, ◌∙◌, refl, take, List, ℕ}
-use Rattle.wav_io.specs.declared.error.WavError.TheVariants.{TooLong}
-use Rattle.wav_io.specs.declared.place.Place.{Place}
-use Rattle.wav_io.specs.Pieces.{IsSoundPlace}
-use Rattle.wav_io.specs.Scans.{to_come}
+use Rattle.wav_io.specs.Prelude.{ap, List, refl, subst, sym, take, ℕ, ◌++◌, ◌∙◌, TooLong, Place, IsSoundPlace, to_come}
 use Rattle.wav_io.proofs.Readers.{refused_place}
 use Rattle.wav_io.proofs.Scans.{refused_comes, piece_refused, piece_too_long, piece_whole, piece_fits, piece_through, still_scan, follows_from, follows_err}
 use Rattle.wav_io.proofs.scan.Scan.advance.Goals as goal

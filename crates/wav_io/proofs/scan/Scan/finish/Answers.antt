@@ -1,8 +1,4 @@
-use Rattle.std.proofs.Common.{◌≡◌, sym, subst, ◌∙◌, ap, false, true, take, List, ℕ}
-use Rattle.std.specs.Prelude.{codes}
-use Rattle.std.specs.Str.{bytes_eq}
-use Rattle.wav_io.specs.declared.place.Place.{Place}
-use Rattle.wav_io.specs.Pieces.{IsSoundPlace}
+use Rattle.wav_io.specs.Prelude.{ap, false, List, subst, sym, take, true, ℕ, ◌∙◌, ◌≡◌, codes, bytes_eq, Place, IsSoundPlace}
 use Rattle.wav_io.proofs.Scans.{ends_at, ends_not_riff, ends_not_wave, ends_head, ends_cut, ends_data, ends_refused}
 use Rattle.wav_io.proofs.scan.Scan.finish.Goals as goal
 

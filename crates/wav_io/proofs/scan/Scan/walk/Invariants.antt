@@ -1,5 +1,4 @@
-use Rattle.std.proofs.Common.{◌≡◌, length}
-use Rattle.wav_io.specs.Pieces.{GoesOn}
+use Rattle.wav_io.specs.Prelude.{length, ◌≡◌, GoesOn}
 use Rattle.wav_io.proofs.scan.Scan.walk.Given as goal
 
 abbrev pub invariant-loop-depths : goal.invariant-loop-depths

@@ -1,8 +1,4 @@
-use Rattle.std.proofs.Common.{ℤ, refl, to_z-of_z, w64}
-use Rattle.std.specs.Prelude.{Option}
-use Rattle.dmix_c.specs.declared.opened.Opened.{Opened}
-use Rattle.dmix_c.specs.Handles.{OpensAt, OpensBy}
-use Rattle.dmix_c.specs.Stands.{stands_for}
+use Rattle.dmix_c.specs.Prelude.{refl, to_z-of_z, w64, ℤ, Option, Opened, OpensAt, OpensBy, stands_for}
 use Rattle.dmix_c.proofs.Handed.{handed}
 use Rattle.dmix_c.proofs.HandleLaws.{OpensStream-closed, OpensStream-open, closed-none}
 use Rattle.dmix_c.proofs.calls.client.opening.dmix_c_client_open.Goals as goal

@@ -1,7 +1,5 @@
-use Rattle.std.proofs.Common.{◌≡◌, to_z-of_z, w64}
+use Rattle.dmix_c.specs.Prelude.{to_z-of_z, w64, ◌≡◌, HasStatus, OnClient}
 use Rattle.dmix_c.proofs.Handed.{handed}
-use Rattle.dmix_c.specs.Handles.{OnClient}
-use Rattle.dmix_c.specs.Clients.{HasStatus}
 use Rattle.dmix_c.proofs.calls.client.params.dmix_c_status.Goals as goal
 
 -- what was taken from the handle was called, and put back

@@ -1,6 +1,4 @@
-use Rattle.std.proofs.Common.{refl}
-use Rattle.dmix_c.specs.declared.opened.Opened.TheVariants.{Client}
-use Rattle.dmix_c.specs.Handles.{OnClient}
+use Rattle.dmix_c.specs.Prelude.{refl, Client, OnClient}
 use Rattle.dmix_c.proofs.Handed.{called}
 use Rattle.dmix_c.proofs.calls.client.params.tell_status.Goals as goal
 

@@ -1,6 +1,4 @@
-use Rattle.std.proofs.Common.{ℤ, refl, subst, sym, to_z-of_z, w64}
-use Rattle.dmix_c.specs.Handles.{OpensReaderAt}
-use Rattle.dmix_c.specs.Stands.{stands_for}
+use Rattle.dmix_c.specs.Prelude.{refl, subst, sym, to_z-of_z, w64, ℤ, OpensReaderAt, stands_for}
 use Rattle.dmix_c.proofs.HandleLaws.{OpensBy-ring}
 use Rattle.dmix_c.proofs.calls.reader.opening.open_by.Goals as goal
 

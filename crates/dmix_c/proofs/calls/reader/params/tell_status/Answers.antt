@@ -1,6 +1,4 @@
-use Rattle.std.proofs.Common.{refl}
-use Rattle.dmix_c.specs.declared.opened.Opened.TheVariants.{Reader}
-use Rattle.dmix_c.specs.Handles.{OnReader}
+use Rattle.dmix_c.specs.Prelude.{refl, Reader, OnReader}
 use Rattle.dmix_c.proofs.Handed.{called}
 use Rattle.dmix_c.proofs.calls.reader.params.tell_status.Goals as goal
 

@@ -1,6 +1,4 @@
-use Rattle.std.proofs.Common.{arith, ap, refl}
-use Rattle.atomic_table.specs.Table.{Me}
-use Rattle.snoop_table.specs.declared.view.View.{View}
+use Rattle.snoop_table.specs.Prelude.{ap, arith, refl, Me, View}
 use Rattle.snoop_table.proofs.Cuts.{splits, has_given}
 use Rattle.snoop_table.proofs.seats.desk.Desk.give.Goals as goal
 

@@ -1,8 +1,4 @@
-use Rattle.std.proofs.Common.{arith, subst, ap, ◌∙◌, refl}
-use Rattle.atomic_table.specs.Table.{Me}
-use Rattle.snd_base.specs.declared.geometry.Geometry.{Geometry}
-use Rattle.snoop_table.specs.declared.view.View.{View}
-use Rattle.snoop_table.specs.Known.{IsReader}
+use Rattle.snoop_table.specs.Prelude.{ap, arith, refl, subst, ◌∙◌, Me, Geometry, View, IsReader}
 use Rattle.snoop_table.proofs.Cuts.{joins, has_heard, known_heard, learns_both}
 use Rattle.snoop_table.proofs.seats.desk.Desk.hear.Goals as goal
 

@@ -1,6 +1,4 @@
-use Rattle.std.proofs.Common.{arith, ap, ◌∙◌, refl}
-use Rattle.atomic_table.specs.Table.{Me}
-use Rattle.snoop_table.specs.declared.view.View.{View}
+use Rattle.snoop_table.specs.Prelude.{ap, arith, refl, ◌∙◌, Me, View}
 use Rattle.snoop_table.proofs.Writing.{has_published, known_published, may_publish}
 use Rattle.snoop_table.proofs.seats.desk.Desk.publish.Goals as goal
 

@@ -1,5 +1,4 @@
-use Rattle.std.proofs.Common.{take}
-use Rattle.snoop_table.specs.Writers.{HasStoredPart}
+use Rattle.snoop_table.specs.Prelude.{take, HasStoredPart}
 use Rattle.snoop_table.proofs.seats.desk.Desk.store_frame.Given as goal
 
 abbrev pub invariant-loop-sample : goal.invariant-loop-sample

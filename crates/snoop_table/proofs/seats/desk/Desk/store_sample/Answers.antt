@@ -1,15 +1,5 @@
-use Rattle.std.proofs.Common.{◌+◌, arith, ap, sym, subst, ◌∙◌, refl}
-use Rattle.std.proofs.lemmas.Int.{to_z-of_z}
-use Rattle.atomic_table.specs.Table.{Me}
-use Rattle.snd_base.specs.declared.places.Cursor.{Cursor}
-use Rattle.snd_base.specs.Places.{lap}
-use Rattle.ring_rule.specs.WordLaws.{index_of-lt}
-use Rattle.snoop_core.specs.Word.{HoldsSample}
-use Rattle.snoop_table.specs.declared.view.View.{View}
-use Rattle.snoop_table.specs.Known.{IsWriter}
+use Rattle.snoop_table.specs.Prelude.{ap, arith, refl, subst, sym, ◌+◌, ◌∙◌, to_z-of_z, Me, w16, SFits, Cursor, lap, HoldsSample, index_of-lt, View, IsWriter}
 use Rattle.snoop_table.proofs.Writing.{has_stored, known_stored, may_store}
-use mir.Syntax.{w16}
-use mir.Val.{SFits}
 use Rattle.snoop_table.proofs.seats.desk.Desk.store_sample.Goals as goal
 
 pub store-requires : goal.store-requires

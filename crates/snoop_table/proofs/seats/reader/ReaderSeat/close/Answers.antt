@@ -1,10 +1,4 @@
-use Rattle.std.proofs.Common.{arith, subst, sym, ap, ◌∙◌}
-use Rattle.atomic_table.specs.Table.{Me}
-use Rattle.snd_base.specs.declared.geometry.Geometry.{Geometry}
-use Rattle.snoop_table.specs.declared.view.View.{View}
-use Rattle.snoop_table.specs.Joins.{IsBorneOut}
-use Rattle.snoop_table.specs.Readers.{view_of}
-use Rattle.snoop_table.specs.Writers.{desk_track}
+use Rattle.snoop_table.specs.Prelude.{ap, arith, subst, sym, ◌∙◌, Me, Geometry, View, IsBorneOut, view_of, desk_track}
 use Rattle.snoop_table.proofs.Cuts.{joins, closed_borne_out, learns_both}
 use Rattle.snoop_table.proofs.seats.reader.ReaderSeat.close.Goals as goal
 

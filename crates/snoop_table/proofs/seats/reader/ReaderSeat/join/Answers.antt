@@ -1,9 +1,4 @@
-use Rattle.std.proofs.Common.{◌≡◌, arith, max, subst, sym, ap, ◌∙◌}
-use Rattle.atomic_table.specs.Table.{Me}
-use Rattle.snd_base.specs.declared.geometry.Geometry.{Geometry}
-use Rattle.snoop_table.specs.declared.view.View.{View}
-use Rattle.snoop_table.specs.Cuts.{both_of}
-use Rattle.snoop_table.specs.Known.{IsReader}
+use Rattle.snoop_table.specs.Prelude.{ap, arith, max, subst, sym, ◌∙◌, ◌≡◌, Me, Geometry, View, both_of, IsReader}
 use Rattle.snoop_table.proofs.Cuts.{joins, known_joined}
 use Rattle.snoop_table.proofs.seats.reader.ReaderSeat.join.Goals as goal
 

@@ -1,7 +1,4 @@
-use Rattle.std.proofs.Common.{arith, sym, subst, ap, ◌∙◌, refl}
-use Rattle.atomic_table.specs.Table.{Me}
-use Rattle.snoop_table.specs.declared.view.View.{View}
-use Rattle.snoop_table.specs.Known.{IsReader}
+use Rattle.snoop_table.specs.Prelude.{ap, arith, refl, subst, sym, ◌∙◌, Me, View, IsReader}
 use Rattle.snoop_table.proofs.Reading.{has_located, known_located, may_locate}
 use Rattle.snoop_table.proofs.seats.reader.ReaderSeat.locate.Goals as goal
 

@@ -1,10 +1,4 @@
-use Rattle.std.proofs.Common.{ℕ, ◌<◌, arith, sym, subst, refl}
-use mathlib.Core.Option.{none}
-use Rattle.atomic_table.specs.Table.{Allows, step}
-use Rattle.snd_base.specs.declared.geometry.Geometry.{Geometry}
-use Rattle.ring_rule.specs.WordLaws.{index_of-lt}
-use Rattle.snoop_table.specs.Captured.{Holds}
-use Rattle.snoop_table.specs.Steps.{word_load}
+use Rattle.snoop_table.specs.Prelude.{arith, refl, subst, sym, ℕ, ◌<◌, Allows, step, none, Geometry, index_of-lt, Holds, word_load}
 use Rattle.snoop_table.proofs.Reading.{has_looked, may_look}
 use Rattle.snoop_table.proofs.seats.reader.ReaderSeat.look_at.Goals as goal
 

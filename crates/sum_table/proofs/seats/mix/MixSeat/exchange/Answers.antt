@@ -1,14 +1,5 @@
-use Rattle.std.proofs.Common.{◌≡◌, ◌≢◌, ◌<◌, ℤ, Some, sym, subst, ap, ◌∙◌, refl, to_z, of_z}
-use Rattle.std.proofs.lemmas.Int.{to_z-of_z}
-use Rattle.atomic_table.specs.Table.{Me}
-use mir.Syntax.{w16}
-use Rattle.snd_base.specs.declared.geometry.Geometry.{Geometry}
-use Rattle.mix_core.specs.declared.port.Entry.{Entry}
-use Rattle.mix_core.specs.Laid.{marks_with}
-use Rattle.sum_table.specs.declared.view.View.{View}
-use Rattle.sum_table.specs.Extent.{Extent}
-use Rattle.sum_table.specs.Known.{IsKnown, greater}
-use Rattle.sum_table.specs.Seats.{entry_by}
+use Rattle.sum_table.specs.Prelude.{ap, of_z, refl, Some, subst, sym, to_z, ℤ, ◌<◌, ◌∙◌, ◌≡◌, ◌≢◌, to_z-of_z, Me, w16, Geometry, Entry, marks_with, View}
+use Rattle.sum_table.specs.Prelude.{Extent, greater, IsKnown, entry_by}
 use Rattle.sum_table.proofs.Places.{spot_within}
 use Rattle.sum_table.proofs.Seated.{MayExchange, has_laid_as, has_lost, known_lost, known_won, lay_facts, lost_notes, may_lay, ring_spot_exchanges, ring_spot_room, room_there, won_lays}
 use Rattle.sum_table.proofs.seats.mix.MixSeat.exchange.Goals as goal

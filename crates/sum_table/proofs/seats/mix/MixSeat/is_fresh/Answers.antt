@@ -1,8 +1,4 @@
-use Rattle.std.proofs.Common.{◌≡◌, ◌∙◌, Bool, true, false, not, List, [], is_some, refl, sym, ap}
-use Rattle.std.proofs.lemmas.Bool.{false≢true}
-use Rattle.mix_core.specs.declared.port.Entry.{Entry}
-use Rattle.sum_table.specs.Known.{last_frame}
-use Rattle.sum_table.specs.Seats.{view_of}
+use Rattle.sum_table.specs.Prelude.{ap, Bool, false, is_some, List, not, refl, sym, true, [], ◌∙◌, ◌≡◌, false≢true, Entry, last_frame, view_of}
 use Rattle.sum_table.proofs.Highs.{last_frame-nil}
 use Rattle.sum_table.proofs.seats.mix.MixSeat.is_fresh.Goals as goal
 

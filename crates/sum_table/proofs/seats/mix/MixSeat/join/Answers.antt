@@ -1,11 +1,5 @@
-use Rattle.std.proofs.Common.{◌+◌, max, arith, subst, ap, ◌∙◌}
-use Rattle.atomic_table.specs.Table.{Me}
-use Rattle.mix_core.specs.declared.port.Entry.{Entry}
+use Rattle.sum_table.specs.Prelude.{ap, arith, max, subst, ◌+◌, ◌∙◌, Me, Entry, View, joined_marks, Extent, greater, IsKnown}
 use Rattle.sum_table.specs.declared.view.Key.{Key}
-use Rattle.sum_table.specs.declared.view.View.{View}
-use Rattle.sum_table.specs.Cuts.{joined_marks}
-use Rattle.sum_table.specs.Extent.{Extent}
-use Rattle.sum_table.specs.Known.{IsKnown, greater}
 use Rattle.sum_table.proofs.Cuts.{joins, known_joined, learned_kept, learns_both}
 use Rattle.sum_table.proofs.seats.mix.MixSeat.join.Goals as goal
 

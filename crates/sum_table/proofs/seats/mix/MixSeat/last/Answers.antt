@@ -1,9 +1,6 @@
-use Rattle.std.proofs.Common.{◌<◌, Option, ℕ, IfSome, arith, subst, sym, ◌∙◌}
-use Rattle.snd_base.specs.Places.{IsFrom, end_frame}
-use Rattle.sum_table.specs.Known.{free_from}
+use Rattle.sum_table.specs.Prelude.{arith, IfSome, Option, subst, sym, ℕ, ◌<◌, ◌∙◌, suc-le-end_frame, end_frame, IsFrom, free_from}
 use Rattle.sum_table.proofs.Seated.{last_frame-before}
 use Rattle.sum_table.proofs.seats.mix.MixSeat.last.Goals as goal
-use Rattle.snd_base.specs.PlaceLaws.{suc-le-end_frame}
 
 pub returns-clause-before_end : goal.returns-clause-before_end
 returns-clause-before_end c =

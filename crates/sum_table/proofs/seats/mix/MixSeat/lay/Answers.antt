@@ -1,13 +1,5 @@
-use Rattle.std.proofs.Common.{◌≡◌, ◌≢◌, ◌+◌, suc, ap, sym, subst, ◌∙◌, refl, arith, [], ◌∷◌, ◌++◌, add-one}
-use Rattle.std.proofs.lemmas.List.{length-append}
-use Rattle.mix_core.specs.declared.gate.Pass.TheVariants.{Go}
-use Rattle.mix_core.specs.Gate.{placement_asks}
-use Rattle.mix_core.specs.declared.gate.StepKind.TheVariants.{Look, Exchange}
-use Rattle.std.proofs.lemmas.Int.{to_z-of_z}
-use mir.Syntax.{w16}
-use Rattle.snd_base.specs.Places.{lap}
-use Rattle.lap_word.specs.Word.{lap_of}
-use Rattle.sum_table.specs.Seats.{entry_by}
+use Rattle.sum_table.specs.Prelude.{add-one, ap, arith, refl, subst, suc, sym, [], ◌++◌, ◌+◌, ◌∙◌, ◌∷◌, ◌≡◌, ◌≢◌, to_z-of_z, length-append, w16, lap, lap_of}
+use Rattle.sum_table.specs.Prelude.{Go, Exchange, Look, placement_asks, entry_by}
 use Rattle.sum_table.proofs.Placing.{asked_again, at_lay, first_trying, found_more, found_none, laid_as, late_lays, stopped_lays, trying_on, whole_lays}
 use Rattle.sum_table.proofs.seats.mix.MixSeat.lay.Goals as goal
 

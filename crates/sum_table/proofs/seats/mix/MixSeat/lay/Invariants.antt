@@ -1,7 +1,4 @@
-use Rattle.std.proofs.Common.{◌≡◌, ℕ, ◌-◌, suc}
-use Rattle.mix_core.specs.declared.gate.Pass.TheVariants.{Go}
-use Rattle.mix_core.specs.Gate.{placement_asks}
-use Rattle.lap_word.specs.Word.{count_of}
+use Rattle.sum_table.specs.Prelude.{suc, ℕ, ◌-◌, ◌≡◌, count_of, Go, placement_asks}
 use Rattle.sum_table.proofs.Placing.{IsTrying}
 use Rattle.sum_table.proofs.seats.mix.MixSeat.lay.Given as goal
 

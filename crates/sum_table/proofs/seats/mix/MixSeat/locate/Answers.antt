@@ -1,5 +1,4 @@
-use Rattle.std.proofs.Common.{arith, sym, subst, ◌∙◌, refl}
-use Rattle.sum_table.specs.Known.{IsKnown}
+use Rattle.sum_table.specs.Prelude.{arith, refl, subst, sym, ◌∙◌, IsKnown}
 use Rattle.sum_table.proofs.Seated.{has_located, known_located, locates_at}
 use Rattle.sum_table.proofs.seats.mix.MixSeat.locate.Goals as goal
 

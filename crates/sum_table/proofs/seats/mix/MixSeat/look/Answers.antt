@@ -1,8 +1,4 @@
-use Rattle.std.proofs.Common.{subst, sym, ap, ◌∙◌, refl}
-use Rattle.atomic_table.specs.Table.{step}
-use mathlib.Core.Option.{none}
-use Rattle.sum_table.specs.Steps.{word_load}
-use Rattle.ring_rule.specs.Words.{index_of}
+use Rattle.sum_table.specs.Prelude.{ap, refl, subst, sym, ◌∙◌, step, none, index_of, word_load}
 use Rattle.sum_table.proofs.Places.{spot_within}
 use Rattle.sum_table.proofs.Seated.{has_noted, known_looked, ring_spot_looks, ring_spot_room}
 use Rattle.sum_table.proofs.seats.mix.MixSeat.look.Goals as goal

@@ -1,10 +1,4 @@
-use Rattle.std.proofs.Common.{arith, ap, subst, sym, ◌∙◌, refl}
-use Rattle.atomic_table.specs.Table.{Me}
-use Rattle.mix_core.specs.declared.port.Entry.{Entry}
-use Rattle.sum_table.specs.declared.view.View.{View}
-use Rattle.sum_table.specs.Cuts.{part_of}
-use Rattle.sum_table.specs.Extent.{Extent}
-use Rattle.sum_table.specs.Known.{IsKnown}
+use Rattle.sum_table.specs.Prelude.{ap, arith, refl, subst, sym, ◌∙◌, Me, Entry, View, part_of, Extent, IsKnown}
 use Rattle.sum_table.proofs.Cuts.{known_as, known_part, may_note}
 use Rattle.sum_table.proofs.seats.mix.MixSeat.note.Goals as goal
 

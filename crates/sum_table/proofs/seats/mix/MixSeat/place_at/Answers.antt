@@ -1,6 +1,4 @@
-use Rattle.std.proofs.lemmas.Int.{to_z-of_z}
-use mir.Syntax.{w16}
-use Rattle.mix_core.specs.declared.port.Kind.TheVariants.{Added}
+use Rattle.sum_table.specs.Prelude.{to_z-of_z, w16, Added}
 use Rattle.sum_table.proofs.Placing.{lays_as}
 use Rattle.sum_table.proofs.seats.mix.MixSeat.place_at.Goals as goal
 

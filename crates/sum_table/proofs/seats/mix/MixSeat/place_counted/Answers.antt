@@ -1,12 +1,6 @@
-use Rattle.std.proofs.Common.{◌≡◌, ◌+◌, ◌<◌, ℕ, ℤ, true, sym, subst, ap, ◌∙◌}
-use Rattle.std.proofs.lemmas.Int.{to_z-of_z}
-use mir.Syntax.{w16}
-use Rattle.mix_core.specs.declared.port.Kind.TheVariants.{Added}
-use Rattle.snd_base.specs.Places.{IsFrom, lap}
-use Rattle.mix_core.specs.declared.marks.Marks.{Marks}
-use Rattle.sum_table.specs.declared.seats.mix.MixSeat.{MixSeat}
+use Rattle.sum_table.specs.Prelude.{ap, subst, sym, true, ℕ, ℤ, ◌+◌, ◌<◌, ◌∙◌, ◌≡◌, to_z-of_z, w16, IsFrom, lap, Marks, Added, MixSeat, CanAdd, IsTurned}
+use Rattle.sum_table.specs.Prelude.{MayLay}
 use Rattle.sum_table.specs.declared.view.Key.{Key}
-use Rattle.sum_table.specs.Seats.{CanAdd, IsTurned, MayLay}
 use Rattle.sum_table.proofs.Placing.{counted_as, turned_counted}
 use Rattle.sum_table.proofs.seats.mix.MixSeat.place_counted.Goals as goal
 

@@ -1,10 +1,5 @@
-use Rattle.std.proofs.Common.{◌≡◌, ◌<◌, true, sym, subst, ap, ◌∙◌}
-use Rattle.std.proofs.lemmas.Int.{to_z-of_z}
-use mir.Syntax.{w16}
-use Rattle.mix_core.specs.declared.port.Kind.TheVariants.{Withdrawn}
-use Rattle.snd_base.specs.Places.{lap}
+use Rattle.sum_table.specs.Prelude.{ap, subst, sym, true, ◌<◌, ◌∙◌, ◌≡◌, to_z-of_z, w16, lap, Withdrawn, IsTurned, MayLay}
 use Rattle.sum_table.specs.declared.view.Key.{Key}
-use Rattle.sum_table.specs.Seats.{IsTurned, MayLay}
 use Rattle.sum_table.proofs.Placing.{counted_as, turned_counted, turned_may}
 use Rattle.sum_table.proofs.Seated.{lay_facts}
 use Rattle.sum_table.proofs.seats.mix.MixSeat.withdraw_counted.Goals as goal

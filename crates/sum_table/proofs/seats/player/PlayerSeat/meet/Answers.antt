@@ -1,9 +1,5 @@
-use Rattle.std.proofs.Common.{arith, subst, ap, ◌∙◌, refl}
-use Rattle.atomic_table.specs.Table.{Me}
-use Rattle.mix_core.specs.declared.port.Entry.{Entry}
+use Rattle.sum_table.specs.Prelude.{ap, arith, refl, subst, ◌∙◌, Me, Entry, View, IsKnown}
 use Rattle.sum_table.specs.declared.view.Key.{Key}
-use Rattle.sum_table.specs.declared.view.View.{View}
-use Rattle.sum_table.specs.Known.{IsKnown}
 use Rattle.sum_table.proofs.Cuts.{joins, has_heard, known_heard, learned_kept, learns_both}
 use Rattle.sum_table.proofs.seats.player.PlayerSeat.meet.Goals as goal
 

@@ -1,7 +1,4 @@
-use Rattle.std.proofs.Common.{arith, ap, ◌∙◌}
-use Rattle.atomic_table.specs.Table.{Me}
-use Rattle.mix_core.specs.declared.port.Entry.{Entry}
-use Rattle.sum_table.specs.declared.view.View.{View}
+use Rattle.sum_table.specs.Prelude.{ap, arith, ◌∙◌, Me, Entry, View}
 use Rattle.sum_table.proofs.Playing.{known_published, may_publish}
 use Rattle.sum_table.proofs.seats.player.PlayerSeat.publish.Goals as goal
 

@@ -1,18 +1,7 @@
-use Rattle.std.proofs.Common.{◌≡◌, ◌≢◌, ◌+◌, sym, subst, ap, ◌∙◌, refl, pos, to_z, of_z, rules}
-use Rattle.atomic_table.specs.Table.{Me}
-use Rattle.mix_core.specs.declared.port.Entry.{Entry}
-use Rattle.snd_base.specs.declared.places.Cursor.{Cursor}
-use Rattle.snd_base.specs.Places.{lap}
-use Rattle.sum_table.specs.declared.view.View.{View}
-use Rattle.sum_table.specs.Known.{IsPlayer}
-use Rattle.sum_table.specs.Players.{IsTurnedPlayer}
-use Rattle.std.proofs.lemmas.Int.{to_z-of_z}
-use mir.Syntax.{w16, w32}
-use mir.Val.{SFits}
-use Rattle.lap_word.specs.Clamp.{clamp_of}
-use Rattle.lap_word.specs.Word.{StandsFor, sum_of}
-use Rattle.sum_table.proofs.Playing.{fits_next, has_taken, known_taken, may_take, turned_fits, turned_lap, turned_taken}
+use Rattle.sum_table.specs.Prelude.{ap, of_z, pos, refl, rules, subst, sym, to_z, ◌+◌, ◌∙◌, ◌≡◌, ◌≢◌, to_z-of_z, Me, w16, w32, SFits, Cursor, lap, clamp_of}
+use Rattle.sum_table.specs.Prelude.{StandsFor, sum_of, Entry, View, IsPlayer, IsTurnedPlayer}
 use Rattle.sum_table.proofs.Places.{spot_within}
+use Rattle.sum_table.proofs.Playing.{fits_next, has_taken, known_taken, may_take, turned_fits, turned_lap, turned_taken}
 use Rattle.sum_table.proofs.seats.player.PlayerSeat.take_word.Goals as goal
 
 pub spot_in_lap-spot-requires : goal.spot_in_lap-spot-requires
