@@ -1,7 +1,7 @@
 -- What is done down the parts of a key below the place of a group is done to the group there.
-use Rattle.asound_conf.specs.Prelude.{ap, ap₂, Bool, cond, Err, false, List, None, not, Ok, Option, refl, Result, Some, sym, true, ℕ, [], ◌&&◌, ◌++◌, ◌||◌, ◌∙◌}
-use Rattle.asound_conf.specs.Prelude.{◌∷◌, ◌≡◌, ConfWhy, answer_view, base, clashes, is_last, meets_text, node_at, node_met, put, put_or_clash, Entries, get}
-use Rattle.asound_conf.specs.Prelude.{group, group_in, text, Tree}
+use Rattle.asound_conf.specs.Prelude.{ap, ap₂, arith, Bool, cond, Err, false, List, None, not, Ok, Option, refl, Result, Some, sym, true, ℕ, [], ◌&&◌, ◌++◌}
+use Rattle.asound_conf.specs.Prelude.{◌∙◌, ◌∷◌, ◌≡◌, nat_tests, ConfWhy, answer_view, base, clashes, is_last, meets_text, node_at, node_met, put, put_or_clash}
+use Rattle.asound_conf.specs.Prelude.{Entries, get, group, group_in, text, Tree}
 use Rattle.asound_conf.specs.Key.{Part, part_named}
 use Rattle.asound_conf.proofs.Places.{get-set, set-set}
 use Rattle.asound_conf.specs.declared.error.ConfWhy.TheVariants as why
@@ -34,11 +34,7 @@ record Meets (part : Part) (g : Entries) (node : Tree) : Type 0 where
   has_it : get part.name g ≡ Some node
 
 meets : (part : Part) (g : Entries) (node : Tree) → node_met part g ≡ Some node → Meets part g node
-meets part g node is = by_mark part.removes refl is
-  where
-    by_mark : (removes : Bool) → part.removes ≡ removes → cond removes None (get part.name g) ≡ Some node → Meets part g node
-    by_mark true marked is = cc
-    by_mark false stays is = record { stays = stays; has_it = is }
+meets part g node is = grind (arith, nat_tests)
 
 met-set : (part : Part) (g : Entries) (old new : Tree) → node_met part g ≡ Some old → node_met part (tree.set part.name new g) ≡ Some new
 met-set part g old new is = ap (λ b. cond b None (get part.name (tree.set part.name new g))) (meets part g old is).stays ∙ get-set part.name new g
@@ -53,45 +49,29 @@ record Under (part : Part) (parts : List Part) (g list : Entries) : Type 0 where
   leads : group_at parts inner ≡ Some list
 
 under : (part : Part) (parts : List Part) (g list : Entries) → group_at (part ∷ parts) g ≡ Some list → Under part parts g list
-under part parts g list is = by_node (node_met part g) refl is
-  where
-    by_node : (m : Option Tree) → node_met part g ≡ m → found_in (inner_group m) (group_at parts) ≡ Some list → Under part parts g list
-    by_node (Some (group inner)) meets_it leads = record { inner = inner; meets_it = meets_it; leads = leads }
-    by_node (Some (text t)) meets_it leads = cc
-    by_node None meets_it leads = cc
+under part parts g list is = grind (arith, nat_tests)
 
 -- a group that was put at a place is there
 pub group_at-with_group : (parts : List Part) (g list new : Entries) → group_at parts g ≡ Some list → group_at parts (with_group parts new g) ≡ Some new
 group_at-with_group [] g list new is = refl
 group_at-with_group (part ∷ parts) g list new is =
     let u = under part parts g list is in
-    let inner = with_group parts new (group_in (node_met part g)) in
-    ap (λ m. found_in (inner_group m) (group_at parts)) (met-set part g (group u.inner) (group inner) u.meets_it)
-    ∙ ap (λ m. group_at parts (with_group parts new (group_in m))) u.meets_it
-    ∙ group_at-with_group parts u.inner list new u.leads
+    rw (met-set part g (group u.inner) (group (with_group parts new (group_in (node_met part g)))) u.meets_it, u.meets_it) (group_at-with_group parts u.inner list new u.leads)
 
 -- the later group of a place stays
 pub with_group-with_group : (parts : List Part) (g list x y : Entries) → group_at parts g ≡ Some list → with_group parts x (with_group parts y g) ≡ with_group parts x g
 with_group-with_group [] g list x y is = refl
 with_group-with_group (part ∷ parts) g list x y is =
     let u = under part parts g list is in
-    let inner = with_group parts y (group_in (node_met part g)) in
-    let inside : with_group parts x inner ≡ with_group parts x (group_in (node_met part g)) =
-    ap (λ m. with_group parts x (with_group parts y (group_in m))) u.meets_it
-    ∙ with_group-with_group parts u.inner list x y u.leads
-    ∙ sym (ap (λ m. with_group parts x (group_in m)) u.meets_it) in
-    ap (λ m. tree.set part.name (group (with_group parts x (group_in m))) (tree.set part.name (group inner) g)) (met-set part g (group u.inner) (group inner) u.meets_it)
-    ∙ set-set part.name (group (with_group parts x inner)) (group inner) g
-    ∙ ap (λ h. tree.set part.name (group h) g) inside
+    rw (met-set part g (group u.inner) (group (with_group parts y (group_in (node_met part g)))) u.meets_it, u.meets_it, with_group-with_group parts u.inner list x y u.leads)
+    (set-set part.name (group (with_group parts x u.inner)) (group (with_group parts y u.inner)) g)
 
 -- a group that is put below the place of another one
 pub with_group-below : (path parts : List Part) (g list new : Entries) → group_at path g ≡ Some list → with_group (path ++ parts) new g ≡ with_group path (with_group parts new list) g
 with_group-below [] parts g list new is = let same : g ≡ list = cc in ap (with_group parts new) same
 with_group-below (first ∷ path) parts g list new is =
     let u = under first path g list is in
-    ap (λ m. tree.set first.name (group (with_group (path ++ parts) new (group_in m))) g) u.meets_it
-    ∙ ap (λ h. tree.set first.name (group h) g) (with_group-below path parts u.inner list new u.leads)
-    ∙ sym (ap (λ m. tree.set first.name (group (with_group path (with_group parts new list) (group_in m))) g) u.meets_it)
+    rw (u.meets_it, with_group-below path parts u.inner list new u.leads) refl
 
 -- a key that goes on has more parts
 is_last-append : (path parts : List Part) → is_last parts ≡ false → is_last (path ++ parts) ≡ false
@@ -108,13 +88,13 @@ put-below : (value : Option (List ℕ)) (path parts : List Part) (g list : Entri
 put-below value [] parts g list is some = let same : g ≡ list = cc in ap (put value parts) same
 put-below value (first ∷ path) parts g list is some =
     let u = under first path g list is in
-    let more = path ++ parts in
-    let inside : put value more (group_in (node_met first g)) ≡ with_group path (put value parts list) (group_in (node_met first g)) =
-    ap (λ m. put value more (group_in m)) u.meets_it
-    ∙ put-below value path parts u.inner list u.leads some
-    ∙ sym (ap (λ m. with_group path (put value parts list) (group_in m)) u.meets_it) in
-    put-further value first more g (is_last-append path parts some)
-    ∙ ap₂ (λ h b. tree.set first.name (group h) b) inside (base-met first g (group u.inner) u.meets_it)
+    rw (
+      put-further value first (path ++ parts) g (is_last-append path parts some),
+      base-met first g (group u.inner) u.meets_it,
+      u.meets_it,
+      put-below value path parts
+          u.inner list u.leads some,
+    ) refl
 
 node_at-further : (part : Part) (parts : List Part) (g : Entries) → is_last parts ≡ false → node_at (part ∷ parts) g ≡ node_at parts (group_in (node_met part g))
 unfolding node_at
@@ -126,9 +106,7 @@ node_at-below : (path parts : List Part) (g list : Entries) → group_at path g 
 node_at-below [] parts g list is some = let same : g ≡ list = cc in ap (node_at parts) same
 node_at-below (first ∷ path) parts g list is some =
     let u = under first path g list is in
-    node_at-further first (path ++ parts) g (is_last-append path parts some)
-    ∙ ap (λ m. node_at (path ++ parts) (group_in m)) u.meets_it
-    ∙ node_at-below path parts u.inner list u.leads some
+    rw (node_at-further first (path ++ parts) g (is_last-append path parts some), u.meets_it) (node_at-below path parts u.inner list u.leads some)
 
 -- nothing is met after the last part
 meets_text-last : (parts : List Part) (g : Entries) → (not (is_last parts) && meets_text parts g) ≡ meets_text parts g
@@ -142,9 +120,7 @@ unfolding meets_text
 meets_text-below [] parts g list is = let same : g ≡ list = cc in ap (meets_text parts) same
 meets_text-below (first ∷ path) parts g list is =
     let u = under first path g list is in
-    ap (λ m. not (is_last (path ++ parts)) && (tree.is_text m || meets_text (path ++ parts) (group_in m))) u.meets_it
-    ∙ meets_text-last (path ++ parts) u.inner
-    ∙ meets_text-below path parts u.inner list u.leads
+    rw u.meets_it (meets_text-last (path ++ parts) u.inner ∙ meets_text-below path parts u.inner list u.leads)
 
 pub seen-cond : {X Y : Type 0} (f : X → Y) (b : Bool) (cause : ConfWhy) (x : X) → answer_view f (cond b (Err cause) (Ok x)) ≡ cond b (Err cause) (Ok (f x))
 seen-cond f true cause x = refl
@@ -189,7 +165,7 @@ placed-down value path part parts root g cleared inner at some meets_it same the
     group_at-below [] parts g list is = let same : g ≡ list = cc in ap (group_at parts) same
     group_at-below (first ∷ path) parts g list is =
         let u = under first path g list is in
-        ap (λ m. found_in (inner_group m) (group_at (path ++ parts))) u.meets_it ∙ group_at-below path parts u.inner list u.leads
+        rw u.meets_it (group_at-below path parts u.inner list u.leads)
 
     seen-along : (r : Result Entries ConfWhy) (f k : Entries → Entries) → ((h : Entries) → f h ≡ k h) → answer_view f r ≡ answer_view k r
     seen-along (Ok x) f k same = ap Ok (same x)

@@ -1,11 +1,11 @@
 -- What the functions of a table change, by the cells that they read and write.
-use Rattle.asound_conf.specs.Prelude.{ap, arith, false, get_or, inl, inr, is_none, length, length-append, List, map, Option, refl, set, Some, suc, sym, true}
-use Rattle.asound_conf.specs.Prelude.{zero, ℕ, [], ◌++◌, ◌<◌, ◌^◌, ◌∙◌, ◌∷◌, ◌≡◌, cases_eq, cases_lt, false≢true, nat_tests, same_from_decides}
-use Rattle.asound_conf.specs.Prelude.{decimal_injective, get_or-set_at, get_or-set_other, get_or_default, get_or_read, length-map, length-set, bytes_eq-Decides}
-use Rattle.asound_conf.specs.Prelude.{decimal, ◌==◌, bytes_eq, Cell, Content, Name, Span, ConfRow, Contents, row_at, with_row, bucket_at, bucket_of, cell_at}
-use Rattle.asound_conf.specs.Prelude.{cell_row, content_of, content_with, contents_of, fits, is_live, IsIndexed, IsLink, IsTable, name_in, new_row, no_cell}
-use Rattle.asound_conf.specs.Prelude.{no_number, parent_of, removed_row, span_in, value_in}
-use Rattle.asound_conf.proofs.Tables.{IsNew, IsNoted, IsSame, IsTable-push, IsTable-set, cell_at-push, is_live-noted, row_at-map, row_is, rows-push, rows-set}
+use Rattle.asound_conf.specs.Prelude.{ap, arith, false, get_or, inl, inr, is_none, length, length-append, List, map, Option, refl, set, Some, sym, true, ℕ, []}
+use Rattle.asound_conf.specs.Prelude.{◌++◌, ◌<◌, ◌^◌, ◌∙◌, ◌∷◌, ◌≡◌, get_or-append, cases_eq, cases_lt, false≢true, nat_tests, same_from_decides}
+use Rattle.asound_conf.specs.Prelude.{decimal_injective, get_or-set_at, get_or-set_other, get_or_default, get_or_read, length-map, length-set, map-set}
+use Rattle.asound_conf.specs.Prelude.{bytes_eq-Decides, decimal, ◌==◌, bytes_eq, Cell, Content, Name, Span, ConfRow, Contents, row_at, with_row, bucket_at}
+use Rattle.asound_conf.specs.Prelude.{bucket_of, cell_at, cell_row, content_of, content_with, contents_of, fits, HasBelow, is_live, IsIndexed, IsLink, IsTable}
+use Rattle.asound_conf.specs.Prelude.{name_in, new_row, no_cell, no_number, parent_of, removed_row, span_in, value_in}
+use Rattle.asound_conf.proofs.Tables.{IsNew, IsNoted, IsSame, IsTable-push, IsTable-set, content_with-same, row_at-map, row_is, rows-push}
 use Rattle.asound_conf.specs.declared.cell.Name.TheVariants as names
 use Rattle.asound_conf.specs.declared.cell.Content.TheVariants as contents
 
@@ -47,14 +47,9 @@ IsChanged-read cells n content cell new inside was read made =
 abbrev pub with_rows : List ℕ → List ConfRow → Contents
 with_rows text rows = record { text = text; rows = rows }
 
--- a cell that is removed, and one that gets another text
-pub IsTable-removed : (text : List ℕ) (cells : List Cell) (heads : List ℕ) (n : ℕ) (new : Cell) → IsChanged cells n contents.Removed new → IsTable text cells heads → IsTable text (set cells n new) heads
-IsTable-removed text cells heads n new it is =
-    IsTable-set text cells heads n new it.inside it.same (rw it.content_is tt) is
-
-pub IsTable-text : (text : List ℕ) (cells : List Cell) (heads : List ℕ) (n : ℕ) (span : Span) (new : Cell) → IsChanged cells n (contents.Text span) new → IsTable text cells heads → IsTable text (set cells n new) heads
-IsTable-text text cells heads n span new it is =
-    IsTable-set text cells heads n new it.inside it.same (rw it.content_is tt) is
+-- a cell that is removed, or that gets another text
+pub IsTable-changed : (text : List ℕ) (cells : List Cell) (heads : List ℕ) (n : ℕ) (content : Content) (new : Cell) → HasBelow text cells n content → IsChanged cells n content new → IsTable text cells heads → IsTable text (set cells n new) heads
+IsTable-changed text cells heads n content new below it is = IsTable-set text cells heads n new it.inside it.same (rw it.content_is below) is
 
 pub contents-removed : (text : List ℕ) (cells : List Cell) (now : Contents) (n : ℕ) (new : Cell) → IsChanged cells n contents.Removed new → contents_of text cells ≡ now
     → contents_of text (set cells n new) ≡ with_rows now.text (set now.rows n (removed_row (row_at now.rows n)))
@@ -62,16 +57,16 @@ contents-removed text cells now n new it view =
     let old = row_at-map text cells n it.inside in
     let row : cell_row text new ≡ removed_row (row_at (map (cell_row text) cells) n) =
     row_is (ap (parent_of new.parent) it.content_is) (ap (name_in text) it.same.name ∙ ap (λ (r : ConfRow). r.name) (sym old)) (ap (value_in text) it.content_is) in
-    ap (with_rows text) (rows-set text cells n new ∙ ap (set (map (cell_row text) cells) n) row) ∙ ap (λ (k : Contents). with_rows k.text (set k.rows n (removed_row (row_at k.rows n)))) view
+    ap (with_rows text) (map-set (cell_row text) cells n new ∙ ap (set (map (cell_row text) cells) n) row) ∙ ap (λ (k : Contents). with_rows k.text (set k.rows n (removed_row (row_at k.rows n)))) view
 
 -- a row with another text
 abbrev pub with_text : List ℕ → ConfRow → ConfRow
 with_text t row = record { parent = row.parent; name = row.name; value = Some t }
 
-parent-text : (text : List ℕ) (q : ℕ) (content : Content) (span : Span) → is_none (value_in text content) ≡ false → parent_of q (contents.Text span) ≡ parent_of q content
-parent-text text q (contents.Text s) span some = refl
-parent-text text q (contents.Group numbers) span some = absurd (false≢true (sym some))
-parent-text text q contents.Removed span some = absurd (false≢true (sym some))
+-- a cell whose row has a text
+text-is : (text : List ℕ) (content : Content) → is_none (value_in text content) ≡ false → (s : Span) × (content ≡ contents.Text s)
+text-is text (contents.Text s) some = (s, refl)
+text-is text other some = absurd (false≢true (sym some))
 
 pub contents-text : (text : List ℕ) (cells : List Cell) (now : Contents) (n : ℕ) (span : Span) (new : Cell) → IsChanged cells n (contents.Text span) new → contents_of text cells ≡ now → is_none (row_at now.rows n).value ≡ false
     → contents_of text (set cells n new) ≡ with_rows now.text (set now.rows n (with_text (span_in now.text span) (row_at now.rows n)))
@@ -80,89 +75,56 @@ contents-text text cells now n span new it view some =
     let its : is_none (value_in text (cell_at cells n).content) ≡ false = ap (λ (r : ConfRow). is_none r.value) (sym old) ∙ ap (λ (k : Contents). is_none (row_at k.rows n).value) view ∙ some in
     let row : cell_row text new ≡ with_text (span_in text span) (row_at (map (cell_row text) cells) n) =
     row_is
-    (ap (parent_of new.parent) it.content_is ∙ ap (λ (q : ℕ). parent_of q (contents.Text span)) it.same.parent ∙ parent-text text (cell_at cells n).parent (cell_at cells n).content span its ∙ ap (λ (r : ConfRow). r.parent) (sym old))
+    (ap (parent_of new.parent) it.content_is ∙ ap (λ (q : ℕ). parent_of q (contents.Text span)) it.same.parent ∙ sym (ap (parent_of (cell_at cells n).parent) (text-is text (cell_at cells n).content its).1) ∙ ap (λ (r : ConfRow). r.parent) (sym old))
     (ap (name_in text) it.same.name ∙ ap (λ (r : ConfRow). r.name) (sym old))
     (ap (value_in text) it.content_is) in
-    ap (with_rows text) (rows-set text cells n new ∙ ap (set (map (cell_row text) cells) n) row) ∙ ap (λ (k : Contents). with_rows k.text (set k.rows n (with_text (span_in k.text span) (row_at k.rows n)))) view
+    ap (with_rows text) (map-set (cell_row text) cells n new ∙ ap (set (map (cell_row text) cells) n) row) ∙ ap (λ (k : Contents). with_rows k.text (set k.rows n (with_text (span_in k.text span) (row_at k.rows n)))) view
 
--- what is known where a cell is added
-pub record IsAdded (text : List ℕ) (cells more : List Cell) (heads : List ℕ) (p : ℕ) (name : Name) (value : Option Span) (n b e : ℕ) (c g : Cell) : Type 0 where
-  pub new : IsNew text cells heads c b
-  pub noted : IsNoted cells c g
-  pub all : more ≡ cells ++ c ∷ []
-  pub number : n ≡ length cells
-  pub parent : c.parent ≡ p
-  pub name_is : c.name ≡ name
-  pub content : c.content ≡ content_of value
-
-pub IsTable-added : (text : List ℕ) (cells more : List Cell) (heads : List ℕ) (p : ℕ) (name : Name) (value : Option Span) (n b e : ℕ) (c g : Cell) → IsAdded text cells more heads p name value n b e c g → IsTable text cells heads
-    → IsTable text (set more p g) (set heads b n)
-IsTable-added text cells more heads p name value n b e c g it is = rw (it.all, ← it.parent, it.number) (IsTable-push text cells heads c g b value it.new it.noted it.content is)
-
-pub contents-added : (text : List ℕ) (cells more : List Cell) (heads : List ℕ) (p : ℕ) (name : Name) (value : Option Span) (n b e : ℕ) (c g : Cell) → IsAdded text cells more heads p name value n b e c g
-    → contents_of text (set more p g) ≡ with_row (new_row text p name value) (contents_of text cells)
-contents-added text cells more heads p name value n b e c g it = rw (it.all, ← it.parent, ← it.name_is) (ap (with_rows text) (rows-push text cells heads c g b value it.new it.noted it.content))
-
-pub IsAdded-steps : (text : List ℕ) (cells more : List Cell) (heads : List ℕ) (p : ℕ) (name : Name) (value : Option Span) (n size b e : ℕ) (keyed : List ℕ) (content note : Content) (c c2 c3 g : Cell)
-    → p < length cells → n ≡ length cells → n < no_number → size ≡ length heads → b < size → b ≡ bucket_of size p keyed → keyed ≡ name_in text name → content ≡ content_of value → e ≡ get_or heads b e
-    → c ≡ record { parent = p; name = name; content = content; earlier = e } → more ≡ cells ++ c ∷ []
-    → c2 ≡ get_or more p c2 → note ≡ content_with c2.content name → c3 ≡ get_or more p c3 → g ≡ record c3 { content = note }
-    → IsAdded text cells more heads p name value n b e c g
-IsAdded-steps text cells more heads p name value n size b e keyed content note c c2 c3 g inside number room wide within bucket key content_is earlier made all read2 noted_is read3 made3 =
-    let width : b < length heads = omega (arith, wide, within) in
-    let parent : c.parent ≡ p = ap (λ (d : Cell). d.parent) made in
-    let name_is : c.name ≡ name = ap (λ (d : Cell). d.name) made in
+-- a cell is added, and its group's cell notes its name: the table, and its rows
+pub table-added : (text : List ℕ) (cells more : List Cell) (heads : List ℕ) (p n b e : ℕ) (name : Name) (value : Option Span) (content note : Content) (read again : Cell)
+    → p < length cells → n ≡ length cells → n < no_number → b < length heads → b ≡ bucket_of (length heads) p (name_in text name) → content ≡ content_of value → e ≡ get_or heads b e
+    → more ≡ cells ++ record { parent = p; name = name; content = content; earlier = e } ∷ [] → read ≡ get_or more p read → note ≡ content_with read.content name → again ≡ get_or more p again
+    → IsTable text cells heads
+    → IsTable text (set more p (record again { content = note })) (set heads b n)
+    × (contents_of text (set more p (record again { content = note })) ≡ with_row (new_row text p name value) (contents_of text cells))
+table-added text cells more heads p n b e name value content note read again inside number room within bucket content_is earlier all read_is note_is again_is is =
+    let c : Cell = record { parent = p; name = name; content = content; earlier = e } in
     let in_more : p < length more = omega (arith, ap (λ (x : List Cell). length x) all, length-append cells (c ∷ []), inside) in
-    let at_more : cell_at more p ≡ cell_at cells p = ap (λ (x : List Cell). cell_at x p) all ∙ cell_at-push cells c p inside in
-    let group2 : c2 ≡ cell_at cells p = get_or_read more p c2 in_more read2 no_cell ∙ at_more in
-    let group3 : c3 ≡ cell_at cells p = get_or_read more p c3 in_more read3 no_cell ∙ at_more in
-    let at : cell_at cells p ≡ cell_at cells c.parent = ap (cell_at cells) (sym parent) in
-    let content_noted : g.content ≡ content_with (cell_at cells c.parent).content c.name =
-    ap (λ (d : Cell). d.content) made3 ∙ noted_is ∙ ap (λ (d : Cell). content_with d.content name) (group2 ∙ at) ∙ ap (content_with (cell_at cells c.parent).content) (sym name_is) in
-    record {
-      new = record {
-        room = omega (arith, room, number);
-        parent = omega (arith, parent, inside);
-        inside = width;
-        bucket = bucket ∙ ap (λ (k : ℕ). bucket_of k p keyed) wide ∙ ap (bucket_of (length heads) p) key ∙ ap (λ (q : ℕ). bucket_of (length heads) q (name_in text name)) (sym parent) ∙ ap (λ (m : Name). bucket_of (length heads) c.parent (name_in text m)) (sym name_is);
-        earlier = ap (λ (d : Cell). d.earlier) made ∙ get_or_read heads b e width earlier 0;
+    let at_more : cell_at more p ≡ cell_at cells p = ap (λ (x : List Cell). cell_at x p) all ∙ get_or-append cells (c ∷ []) no_cell p inside in
+    let group : read ≡ cell_at cells p = get_or_read more p read in_more read_is no_cell ∙ at_more in
+    let same : again ≡ cell_at cells p = get_or_read more p again in_more again_is no_cell ∙ at_more in
+    let content_noted : note ≡ content_with (cell_at cells p).content name = note_is ∙ ap (λ (d : Cell). content_with d.content name) group in
+    let new : IsNew text cells heads c b = record {
+      room = omega (arith, room, number);
+      parent = inside;
+      inside = within;
+      bucket = bucket;
+      earlier = get_or_read heads b
+          e within earlier 0;
+    } in
+    let noted : IsNoted cells c (record again { content = note }) = record {
+      place = record {
+        parent = ap (λ (d : Cell). d.parent) same;
+        name = ap (λ (d : Cell). d.name) same;
+        earlier = ap (λ (d : Cell). d.earlier) same;
+        live = λ live. sym (content_with-same is_live (cell_at cells p).content name (λ m n. refl)) ∙ ap is_live (sym content_noted) ∙ live;
       };
-      noted = record {
-        place = record {
-          parent = ap (λ (d : Cell). d.parent) made3 ∙ ap (λ (d : Cell). d.parent) (group3 ∙ at);
-          name = ap (λ (d : Cell). d.name) made3 ∙ ap (λ (d : Cell). d.name) (group3 ∙ at);
-          earlier = ap (λ (d : Cell). d.earlier) made3 ∙ ap (λ (d : Cell). d.earlier) (group3 ∙ at);
-          live = λ live. sym (is_live-noted (cell_at cells c.parent).content c.name) ∙ ap is_live (sym content_noted) ∙ live;
-        };
-        content = content_noted;
-      };
-      all = all;
-      number = number;
-      parent = parent;
-      name_is = name_is;
-      content = ap (λ (d : Cell). d.content) made ∙ content_is;
-    }
-
--- the cell that is read, whatever is beside the cells
-pub cell-any : (cells : List Cell) (i : ℕ) (d e : Cell) → i < length cells → get_or cells i d ≡ get_or cells i e
-cell-any [] i d e inside = absurd (omega (arith, inside))
-cell-any (c ∷ cells) zero d e inside = refl
-cell-any (c ∷ cells) (suc i) d e inside = cell-any cells i d e (omega (arith, inside))
+      content = content_noted;
+    } in
+    rw (all, number) (
+      IsTable-push text cells heads c (record again { content = note }) b value new noted content_is is,
+      ap (with_rows text) (rows-push text cells heads c (record again { content = note }) b value new noted content_is),
+    )
 
 -- the cell of zeros
 abbrev pub zero_cell : Cell
 zero_cell = record { parent = 0; name = names.Bytes (record { start = 0; count = 0 }); content = contents.Text (record { start = 0; count = 0 }); earlier = 0 }
 
 -- a row with a text is a cell that wasn't removed
-live-text : (text : List ℕ) (content : Content) → is_none (value_in text content) ≡ false → is_live content ≡ true
-live-text text (contents.Text s) some = refl
-live-text text (contents.Group numbers) some = absurd (false≢true (sym some))
-live-text text contents.Removed some = absurd (false≢true (sym some))
-
 pub live-row : (text : List ℕ) (cells : List Cell) (now : Contents) (n : ℕ) → n < length cells → contents_of text cells ≡ now → is_none (row_at now.rows n).value ≡ false → is_live (cell_at cells n).content ≡ true
 live-row text cells now n inside view some =
-    live-text text (cell_at cells n).content
-    (ap (λ (r : ConfRow). is_none r.value) (sym (row_at-map text cells n inside)) ∙ ap (λ (k : Contents). is_none (row_at k.rows n).value) view ∙ some)
+    let its = ap (λ (r : ConfRow). is_none r.value) (sym (row_at-map text cells n inside)) ∙ ap (λ (k : Contents). is_none (row_at k.rows n).value) view ∙ some in
+    ap is_live (text-is text (cell_at cells n).content its).1
 
 -- the last cell of a bucket is taken off it, where it was removed
 head-forget : (text : List ℕ) (cells : List Cell) (heads : List ℕ) (n b e k : ℕ) → 0 < n → is_live (cell_at cells n).content ≡ false → b ≡ bucket_at (length heads) text cells n → b < length heads

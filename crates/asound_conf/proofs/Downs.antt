@@ -1,5 +1,5 @@
 -- The steps down the parts of a key as the code takes them: the first part, and the rest of a slice.
-use Rattle.asound_conf.specs.Prelude.{ap, append_assoc, ap₂, arith, cond, drop, Err, false, get_or, IfOk, is_none, length, List, None, Ok, Option, refl, Result}
+use Rattle.asound_conf.specs.Prelude.{ap, append_assoc, arith, cond, drop, Err, false, get_or, IfOk, is_none, length, List, None, Ok, Option, refl, Result}
 use Rattle.asound_conf.specs.Prelude.{Some, subst, sym, take, true, ℕ, [], ◌++◌, ◌-◌, ◌<◌, ◌||◌, ◌∙◌, ◌∷◌, ◌≡◌, ◌≤◌, nil_from_length, take_all, Span, ConfWhy}
 use Rattle.asound_conf.specs.Prelude.{Leads, Refuses, part_in, parts_in, text_in, base, is_last, meets_text, node_met, put_or_clash, Alters, ConfRow, Contents}
 use Rattle.asound_conf.specs.Prelude.{group_of, IsAbsent, IsNode, node, row_at, name_in, Entries, get, group, group_in, is_text, Tree, IsKeyStep, IsWay}
@@ -29,25 +29,43 @@ one_part : (d : code.Part) (parts : List code.Part) → 1 ≤ length parts → l
 one_part d [] some none = absurd (omega arith)
 one_part d (p ∷ parts) some none = ap (λ ps. p ∷ ps) (nil_from_length parts (sym (ap length (rest-cons p parts)) ∙ none))
 
--- the last part
-pub here-placed : (d : code.Part) (r : Result ℕ ConfWhy) (first mid new : Contents) (q : ℕ) (parts : List code.Part) (value : Option Span) (path : List Part) → 1 ≤ length parts → length (take (length parts - 1) (drop 1 parts)) ≡ 0 → IsWay first.rows 0 path q
-    → Alters q first.rows mid.rows → mid.text ≡ first.text → Alters q mid.rows new.rows → group_of q mid.rows ≡ base (part_in first.text (get_or parts 0 d)) (group_of q first.rows)
-    → Leads r (group_of q new.rows) (put_or_clash (text_in mid.text value) (part_named (name_in mid.text (get_or parts 0 d).name) ∷ []) (group_of q mid.rows))
-    → Leads r (group_of 0 new.rows) (put_or_clash (text_in first.text value) (path ++ parts_in first.text parts) (group_of 0 first.rows))
-here-placed d r first mid new q parts value path some none way clears same puts cleared leads =
-    rw (one_part d parts some none)
-    (put-last r first.rows mid.rows new.rows q (part_in first.text (get_or parts 0 d)) (text_in first.text value) path way clears puts cleared (rw same at leads))
+-- what is put down the parts of a key into the group of a row
+pub record IsPut (r : Result ℕ ConfWhy) (first new : Contents) (q : ℕ) (parts : List code.Part) (value : Option Span) : Type 0 where
+  pub placed : (path : List Part) → IsWay first.rows 0 path q → Leads r (group_of 0 new.rows) (put_or_clash (text_in first.text value) (path ++ parts_in first.text parts) (group_of 0 first.rows))
+  pub way : (path : List Part) → IsWay first.rows 0 path q → IfOk r (λ n. value ≡ None → IsWay new.rows 0 (path ++ without_marks (parts_in first.text parts)) n)
+  pub row : IfOk r (λ n. value ≡ None → (q < n) × (n < length new.rows))
+  pub kept : (path : List Part) (last : ℕ) → last ≤ q → IsWay first.rows 0 path last → IsWay new.rows 0 path last
+  pub text : new.text ≡ first.text
+  pub longer : length first.rows ≤ length new.rows
 
-pub here-way : (d : code.Part) (r : Result ℕ ConfWhy) (first mid new : Contents) (q : ℕ) (parts : List code.Part) (W : Type 0) (path : List Part) → 1 ≤ length parts → length (take (length parts - 1) (drop 1 parts)) ≡ 0 → IsWay first.rows 0 path q
-    → Alters q first.rows new.rows → mid.text ≡ first.text → IfOk r (λ n. W → IsKeyStep new.rows q (part_named (name_in mid.text (get_or parts 0 d).name)) n) → IfOk r (λ n. W → IsWay new.rows 0 (path ++ without_marks (parts_in first.text parts)) n)
-here-way d r first mid new q parts W path some none way alters same step =
-    rw (one_part d parts some none) (put-last-way r first.rows new.rows q (part_in first.text (get_or parts 0 d)) W path way alters (rw same at step))
+-- a group as a part of a key leaves it before it goes on
+pub record IsCleared (first mid : Contents) (q : ℕ) (part : code.Part) : Type 0 where
+  pub value : group_of q mid.rows ≡ base (part_in first.text part) (group_of q first.rows)
+  pub text : mid.text ≡ first.text
+  pub alters : Alters q first.rows mid.rows
 
-pub step-row : (r : Result ℕ ConfWhy) (rows : List ConfRow) (q : ℕ) (part : Part) (W : Type 0) → IfOk r (λ n. W → IsKeyStep rows q part n) → IfOk r (λ n. W → (q < n) × (n < length rows))
+step-row : (r : Result ℕ ConfWhy) (rows : List ConfRow) (q : ℕ) (part : Part) (W : Type 0) → IfOk r (λ n. W → IsKeyStep rows q part n) → IfOk r (λ n. W → (q < n) × (n < length rows))
 step-row (Ok n) rows q part W step = λ w. ((step w).is_node.falls, (step w).is_node.inside)
 step-row (Err cause) rows q part W step = tt
 
-pub later-row : (r : Result ℕ ConfWhy) (rows : List ConfRow) (q inner : ℕ) (W : Type 0) → q < inner → IfOk r (λ n. W → (inner < n) × (n < length rows)) → IfOk r (λ n. W → (q < n) × (n < length rows))
+-- the last part
+pub put-here : (d : code.Part) (r : Result ℕ ConfWhy) (first mid new : Contents) (q : ℕ) (parts : List code.Part) (value : Option Span) → 1 ≤ length parts → length (take (length parts - 1) (drop 1 parts)) ≡ 0 → IsCleared first mid q (get_or parts 0 d)
+    → Leads r (group_of q new.rows) (put_or_clash (text_in mid.text value) (part_named (name_in mid.text (get_or parts 0 d).name) ∷ []) (group_of q mid.rows))
+    → IfOk r (λ n. value ≡ None → IsKeyStep new.rows q (part_named (name_in mid.text (get_or parts 0 d).name)) n) → new.text ≡ mid.text → Alters q mid.rows new.rows → IsPut r first new q parts value
+put-here d r first mid new q parts value some none cleared leads step same puts =
+    let part = part_in first.text (get_or parts 0 d) in
+    let both = Alters-both q first.rows mid.rows new.rows cleared.alters puts in
+    record {
+      placed = λ path way. rw (one_part d parts some none) (put-last r first.rows mid.rows new.rows q part (text_in first.text value) path way cleared.alters puts
+          cleared.value (rw cleared.text at leads));
+      way = λ path way. rw (one_part d parts some none) (put-last-way r first.rows new.rows q part (value ≡ None) path way both (rw cleared.text at step));
+      row = step-row r new.rows q _ (value ≡ None) step;
+      kept = λ path last low way. IsWay-kept q first.rows new.rows 0 path last both low way;
+      text = same ∙ cleared.text;
+      longer = both.longer;
+    }
+
+later-row : (r : Result ℕ ConfWhy) (rows : List ConfRow) (q inner : ℕ) (W : Type 0) → q < inner → IfOk r (λ n. W → (inner < n) × (n < length rows)) → IfOk r (λ n. W → (q < n) × (n < length rows))
 later-row (Ok n) rows q inner W low row = λ w. let later : inner < n = (row w).0 in (omega arith, (row w).1)
 later-row (Err cause) rows q inner W low row = tt
 
@@ -63,64 +81,51 @@ pub record IsDown (first mid : Contents) (q n : ℕ) (parts : List code.Part) : 
   pub step : IsKeyStep mid.rows q (part_named (name_in first.text part.name)) n
   pub leads : IsLed first.rows mid.rows q (part_in first.text part) n
 
-pub is_down : (d : code.Part) (first cleared mid : Contents) (q n : ℕ) (parts : List code.Part) → 1 ≤ length parts → 1 ≤ length (take (length parts - 1) (drop 1 parts)) → Alters q first.rows cleared.rows → cleared.text ≡ first.text → group_of q cleared.rows ≡ base (part_in first.text (get_or parts 0 d)) (group_of q first.rows)
+pub is_down : (d : code.Part) (first cleared mid : Contents) (q n : ℕ) (parts : List code.Part) → 1 ≤ length parts → 1 ≤ length (take (length parts - 1) (drop 1 parts)) → IsCleared first cleared q (get_or parts 0 d)
     → Alters q cleared.rows mid.rows → mid.text ≡ cleared.text → put_or_clash None (part_named (name_in cleared.text (get_or parts 0 d).name) ∷ []) (group_of q cleared.rows) ≡ Ok (group_of q mid.rows)
     → IsKeyStep mid.rows q (part_named (name_in cleared.text (get_or parts 0 d).name)) n → IsDown first mid q n parts
-is_down d first cleared mid q n [] some more clears same is puts also put_it step = absurd (omega arith)
-is_down d first cleared mid q n (p ∷ parts) some more clears same is puts also put_it step =
-    let step_there : IsKeyStep mid.rows q (part_named (name_in first.text p.name)) n = subst (λ t. IsKeyStep mid.rows q (part_named (name_in t p.name)) n) same step in
-    let put_there : put_or_clash None (part_named (name_in first.text p.name) ∷ []) (group_of q cleared.rows) ≡ Ok (group_of q mid.rows) = subst (λ t. put_or_clash None (part_named (name_in t p.name) ∷ []) (group_of q cleared.rows) ≡ Ok (group_of q mid.rows)) same put_it in
+is_down d first cleared mid q n [] some more clear puts also put_it step = absurd (omega arith)
+is_down d first cleared mid q n (p ∷ parts) some more clear puts also put_it step =
+    let step_there : IsKeyStep mid.rows q (part_named (name_in first.text p.name)) n = rw clear.text at step in
     record {
       part = p;
       rest = parts;
       whole = refl;
       rest_is = rest-cons p parts;
-      more = subst (λ (ps : List code.Part). 1 ≤ length ps) (rest-cons p parts) more;
-      same = also ∙ same;
-      alters = Alters-both q first.rows cleared.rows mid.rows clears puts;
+      more = rw (rest-cons p parts) at more;
+      same = also ∙ clear.text;
+      alters = Alters-both q first.rows cleared.rows mid.rows clear.alters puts;
       step = step_there;
-      leads = led first.rows cleared.rows mid.rows q (part_in first.text p) n is put_there step_there;
+      leads = led first.rows cleared.rows mid.rows q (part_in first.text p) n clear.value (rw clear.text at put_it) step_there;
     }
 
 pub down-open : (first mid : Contents) (q n : ℕ) (parts : List code.Part) → IsDown first mid q n parts → meets_text (parts_in first.text parts) (group_of q first.rows) ≡ false → meets_text (parts_in mid.text (take (length parts - 1) (drop 1 parts))) (group_of n mid.rows) ≡ false
 down-open first mid q n parts down clear =
-    ap₂ (λ t ps. meets_text (parts_in t ps) (group_of n mid.rows)) down.same down.rest_is
-    ∙ meets_text-rest (part_in first.text down.part) (parts_in first.text down.rest) (group_of q first.rows) (group_of n mid.rows) (is_last-some first.text down.rest down.more)
-    (ap (λ ps. meets_text (parts_in first.text ps) (group_of q first.rows)) (sym down.whole) ∙ clear) down.leads.meets_it
+    rw (down.rest_is, down.same)
+    (meets_text-rest (part_in first.text down.part) (parts_in first.text down.rest) (group_of q first.rows) (group_of n mid.rows)
+    (is_last-some first.text down.rest down.more) (rw down.whole at clear) down.leads.meets_it)
 
-pub down-some : (first mid : Contents) (q n : ℕ) (parts : List code.Part) → IsDown first mid q n parts → 1 ≤ length (take (length parts - 1) (drop 1 parts))
-down-some first mid q n parts down = subst (λ (ps : List code.Part). 1 ≤ length ps) (sym down.rest_is) down.more
-
-pub down-placed : (r : Result ℕ ConfWhy) (first mid new : Contents) (q n : ℕ) (parts : List code.Part) (value : Option Span) (path : List Part) → IsDown first mid q n parts → IsWay first.rows 0 path q
-    → ((way : List Part) → IsWay mid.rows 0 way n → Leads r (group_of 0 new.rows) (put_or_clash (text_in mid.text value) (way ++ parts_in mid.text (take (length parts - 1) (drop 1 parts))) (group_of 0 mid.rows)))
-    → Leads r (group_of 0 new.rows) (put_or_clash (text_in first.text value) (path ++ parts_in first.text parts) (group_of 0 first.rows))
-down-placed r first mid new q n parts value path down way more =
+-- a part that goes on, and what is put down the rest of the key
+pub put-on : (r : Result ℕ ConfWhy) (first mid new : Contents) (q n : ℕ) (parts : List code.Part) (value : Option Span) → IsDown first mid q n parts → IsPut r mid new n (take (length parts - 1) (drop 1 parts)) value → IsPut r first new q parts value
+put-on r first mid new q n parts value down is =
     let part = part_in first.text down.part in
-    let next = path ++ part_named part.name ∷ [] in
-    let way_there : IsWay mid.rows 0 next n = IsWay-more mid.rows 0 path q (part_named part.name) n (IsWay-kept q first.rows mid.rows 0 path q down.alters (omega arith) way) down.step in
-    let leads = subst (λ (ps : List code.Part). Leads r (group_of 0 new.rows) (put_or_clash (text_in first.text value) (next ++ parts_in first.text ps) (group_of 0 mid.rows))) down.rest_is
-    (subst (λ (t : List ℕ). Leads r (group_of 0 new.rows) (put_or_clash (text_in t value) (next ++ parts_in t (take (length parts - 1) (drop 1 parts))) (group_of 0 mid.rows))) down.same (more next way_there)) in
-    subst (λ (ps : List code.Part). Leads r (group_of 0 new.rows) (put_or_clash (text_in first.text value) (path ++ parts_in first.text ps) (group_of 0 first.rows))) (sym down.whole)
-    (put-down r first.rows mid.rows new.rows q n part (parts_in first.text down.rest) (text_in first.text value) path way down.alters (is_last-some first.text down.rest down.more) down.leads leads)
-
-pub down-way : (r : Result ℕ ConfWhy) (first mid new : Contents) (q n : ℕ) (parts : List code.Part) (W : Type 0) (path : List Part) → IsDown first mid q n parts → IsWay first.rows 0 path q
-    → ((way : List Part) → IsWay mid.rows 0 way n → IfOk r (λ m. W → IsWay new.rows 0 (way ++ without_marks (parts_in mid.text (take (length parts - 1) (drop 1 parts)))) m))
-    → IfOk r (λ m. W → IsWay new.rows 0 (path ++ without_marks (parts_in first.text parts)) m)
-down-way r first mid new q n parts W path down way more =
-    let part = part_in first.text down.part in
-    let next = path ++ part_named part.name ∷ [] in
-    let way_there : IsWay mid.rows 0 next n = IsWay-more mid.rows 0 path q (part_named part.name) n (IsWay-kept q first.rows mid.rows 0 path q down.alters (omega arith) way) down.step in
-    let ways : next ++ without_marks (parts_in mid.text (take (length parts - 1) (drop 1 parts))) ≡ path ++ without_marks (parts_in first.text parts) =
-    ap₂ (λ (t : List ℕ) (ps : List code.Part). next ++ without_marks (parts_in t ps)) down.same down.rest_is
-    ∙ append_assoc path (part_named part.name ∷ []) (without_marks (parts_in first.text down.rest))
-    ∙ ap (λ (ps : List code.Part). path ++ without_marks (parts_in first.text ps)) (sym down.whole) in
-    subst (λ (w : List Part). IfOk r (λ m. W → IsWay new.rows 0 w m)) ways (more next way_there)
-
-pub down-kept : (first mid new : Contents) (q n : ℕ) (parts : List code.Part) → IsDown first mid q n parts → ((way : List Part) (last : ℕ) → last ≤ n → IsWay mid.rows 0 way last → IsWay new.rows 0 way last)
-    → (path : List Part) (last : ℕ) → last ≤ q → IsWay first.rows 0 path last → IsWay new.rows 0 path last
-down-kept first mid new q n parts down more path last low way =
+    let ways : (path : List Part) → IsWay first.rows 0 path q → IsWay mid.rows 0 (path ++ part_named part.name ∷ []) n =
+    λ path way. IsWay-more mid.rows 0 path q (part_named part.name) n (IsWay-kept q first.rows mid.rows 0 path q down.alters (omega arith) way) down.step in
     let falls : q < n = down.step.is_node.falls in
-    more path last (omega arith) (IsWay-kept q first.rows mid.rows 0 path last down.alters low way)
+    record {
+      placed = λ path way.
+          rw down.whole
+          (put-down r first.rows mid.rows new.rows q n part (parts_in first.text down.rest) (text_in first.text value) path way down.alters
+          (is_last-some first.text down.rest down.more) down.leads
+          (rw (down.rest_is, down.same) at (is.placed (path ++ part_named part.name ∷ []) (ways path way))));
+      way = λ path way.
+          rw (down.whole, ← append_assoc path (part_named part.name ∷ []) (without_marks (parts_in first.text down.rest)))
+          (rw (down.rest_is, down.same) at (is.way (path ++ part_named part.name ∷ []) (ways path way)));
+      row = later-row r new.rows q n (value ≡ None) falls is.row;
+      kept = λ path last low way. is.kept path last (omega arith) (IsWay-kept q first.rows mid.rows 0 path last down.alters low way);
+      text = is.text ∙ down.same;
+      longer = omega (arith, down.alters.longer, is.longer);
+    }
 
 -- a part that isn't the last is refused by want of memory alone
 pub down-refused : {X : Type 0} (d : code.Part) (cause : ConfWhy) (first cleared : Contents) (q : ℕ) (parts : List code.Part) (given : Result X ConfWhy) → 1 ≤ length parts → 1 ≤ length (take (length parts - 1) (drop 1 parts)) → cleared.text ≡ first.text → group_of q cleared.rows ≡ base (part_in first.text (get_or parts 0 d)) (group_of q first.rows)
@@ -138,8 +143,7 @@ pub meets-node : (d : code.Part) (text : List ℕ) (parts : List code.Part) (g :
     → meets_text (parts_in text parts) g ≡ (is_text m || meets_text (parts_in text (take (length parts - 1) (drop 1 parts))) (group_in m))
 meets-node d text [] g m some more is = absurd (omega arith)
 meets-node d text (p ∷ parts) g m some more is =
-    meets_text-further (part_in text p) (parts_in text parts) g m (is_last-some text parts (subst (λ (ps : List code.Part). 1 ≤ length ps) (rest-cons p parts) more)) is
-    ∙ ap (λ (ps : List code.Part). is_text m || meets_text (parts_in text ps) (group_in m)) (sym (rest-cons p parts))
+    rw (rest-cons p parts) (meets_text-further (part_in text p) (parts_in text parts) g m (is_last-some text parts (rw (rest-cons p parts) at more)) is)
 
 pub meets-None : (d : code.Part) (text : List ℕ) (parts : List code.Part) (g : Entries) → 1 ≤ length parts → 1 ≤ length (take (length parts - 1) (drop 1 parts)) → node_met (part_in text (get_or parts 0 d)) g ≡ None → meets_text (parts_in text parts) g ≡ false
 meets-None d text parts g some more is = meets-node d text parts g None some more is ∙ meets_text-empty (parts_in text (take (length parts - 1) (drop 1 parts)))

@@ -1,8 +1,7 @@
 -- What the first byte of a text says of the token there, and of its end.
 use Rattle.asound_conf.specs.Prelude.{ap, arith, drop, false, inl, inr, is_none, List, None, Option, refl, Some, sym, take, true, ℕ, ◌∙◌, ◌≡◌, ◌⊎◌, and_parts}
-use Rattle.asound_conf.specs.Prelude.{cases_Bool, cond-false, cond-true, false_from_ne_true, false≢true, not-true, or_cases, or_parts, nat_tests, slice_index}
-use Rattle.asound_conf.specs.Prelude.{◌==◌, Mark, bad, end_at, ends_word, is_quote, is_skipped, is_word_byte, mark, mark_of, mark_or, quoted_size, quoted_token}
-use Rattle.asound_conf.specs.Prelude.{Token, token_at, token_end, word}
+use Rattle.asound_conf.specs.Prelude.{cases_Bool, false_from_ne_true, false≢true, not-true, nat_tests, slice_index, ◌==◌, Mark, bad, end_at, ends_word}
+use Rattle.asound_conf.specs.Prelude.{is_quote, is_skipped, is_word_byte, mark, mark_of, quoted_size, quoted_token, token_at, token_end, word}
 use Rattle.asound_conf.specs.declared.error.ConfWhy.TheVariants as why
 
 is_none-true : (m : Option Mark) → is_none m ≡ true → m ≡ None
@@ -25,59 +24,38 @@ is_word_byte-mark b is = is_none-true (mark_of b) (and_parts _ _ is).1
 
 -- a quote is no mark
 is_quote-mark : (b : ℕ) → is_quote b ≡ true → mark_of b ≡ None
-is_quote-mark b is = elim (or_cases (b == 34) (b == 39) is) [
-  | inl e ↦ let at : b ≡ 34 = grind (arith, nat_tests, e) in ap mark_of at
-  | inr e ↦ let at : b ≡ 39 = grind (arith, nat_tests, e) in ap mark_of at
-]
-
-mark_or-None : (m : Option Mark) (other : Token) → m ≡ None → mark_or m other ≡ other
-mark_or-None m other is = ap (λ (o : Option Mark). mark_or o other) is
-
-mark_or-Some : (m : Option Mark) (n : Mark) (other : Token) → m ≡ Some n → mark_or m other ≡ mark n
-mark_or-Some m n other is = ap (λ (o : Option Mark). mark_or o other) is
+is_quote-mark b is = grind (arith, nat_tests)
 
 -- a word
 pub token_at-word : (text : List ℕ) → is_word_byte (slice_index text 0) ≡ true → token_at text ≡ word (take (end_at ends_word text) text)
 unfolding token_at
-token_at-word text is =
-    let b = slice_index text 0 in
-    mark_or-None (mark_of b) _ (is_word_byte-mark b is) ∙ cond-false (is_quote b) _ _ (is_word_byte-quote b is) ∙ cond-true (is_word_byte b) _ _ is
+token_at-word text is = rw (is, is_word_byte-quote (slice_index text 0) is, is_word_byte-mark (slice_index text 0) is) refl
 
 pub token_end-word : (text : List ℕ) → is_word_byte (slice_index text 0) ≡ true → token_end text ≡ end_at ends_word text
 unfolding token_end
-token_end-word text is =
-    let b = slice_index text 0 in
-    cond-false (b == 35) _ _ (is_word_byte-35 b is) ∙ cond-false (is_quote b) _ _ (is_word_byte-quote b is) ∙ cond-true (is_word_byte b) _ _ is
+token_end-word text is = rw (is, is_word_byte-35 (slice_index text 0) is, is_word_byte-quote (slice_index text 0) is) refl
 
 -- a quoted text
 pub token_at-quote : (text : List ℕ) → is_quote (slice_index text 0) ≡ true → token_at text ≡ quoted_token (slice_index text 0) (drop 1 text)
 unfolding token_at
-token_at-quote text is =
-    let b = slice_index text 0 in
-    mark_or-None (mark_of b) _ (is_quote-mark b is) ∙ cond-true (is_quote b) _ _ is
+token_at-quote text is = rw (is, is_quote-mark (slice_index text 0) is) refl
 
 pub token_end-quote : (text : List ℕ) → is_quote (slice_index text 0) ≡ true → token_end text ≡ quoted_size (slice_index text 0) (drop 1 text)
 unfolding token_end
-token_end-quote text is =
-    let b = slice_index text 0 in
-    cond-false (b == 35) _ _ (is_quote-35 b is) ∙ cond-true (is_quote b) _ _ is
+token_end-quote text is = rw (is_quote-35 (slice_index text 0) is, is) refl
 
 -- a mark, or a byte that begins no token
 pub token_at-mark : (text : List ℕ) (m : Mark) → mark_of (slice_index text 0) ≡ Some m → token_at text ≡ mark m
 unfolding token_at
-token_at-mark text m is = mark_or-Some (mark_of (slice_index text 0)) m _ is
+token_at-mark text m is = rw is refl
 
 pub token_at-bad : (text : List ℕ) → mark_of (slice_index text 0) ≡ None → is_quote (slice_index text 0) ≡ false → is_word_byte (slice_index text 0) ≡ false → token_at text ≡ bad why.Byte
 unfolding token_at
-token_at-bad text marks quotes words =
-    let b = slice_index text 0 in
-    mark_or-None (mark_of b) _ marks ∙ cond-false (is_quote b) _ _ quotes ∙ cond-false (is_word_byte b) _ _ words
+token_at-bad text marks quotes words = rw (words, quotes, marks) refl
 
 pub token_end-one : (text : List ℕ) → is_skipped (slice_index text 0) ≡ false → is_quote (slice_index text 0) ≡ false → is_word_byte (slice_index text 0) ≡ false → token_end text ≡ 1
 unfolding token_end
-token_end-one text kept quotes words =
-    let b = slice_index text 0 in
-    cond-false (b == 35) _ _ (or_parts _ _ kept).1 ∙ cond-false (is_quote b) _ _ quotes ∙ cond-false (is_word_byte b) _ _ words
+token_end-one text kept quotes words = grind (arith, nat_tests)
 
 -- a text begins with a word, with a quote, with a mark, or with none of them
 pub first-cases : (text : List ℕ) → (is_word_byte (slice_index text 0) ≡ true) ⊎ ((is_quote (slice_index text 0) ≡ true) ⊎ (((m : Mark) × (token_at text ≡ mark m)) ⊎ (token_at text ≡ bad why.Byte)))

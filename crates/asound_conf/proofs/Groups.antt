@@ -1,8 +1,8 @@
 -- The groups of rows by their numbers: what is found in them, and what one row more or another row changes.
 use Rattle.asound_conf.specs.Prelude.{ap, ap₂, arith, cond, drop, false, inl, inr, length, List, None, refl, Some, suc, sym, true, zero, ℕ, [], ◌++◌, ◌+◌, ◌-◌}
-use Rattle.asound_conf.specs.Prelude.{◌<◌, ◌∙◌, ◌∷◌, ◌≡◌, ◌≤◌, cases_Bool, drop-append-le, drop-drop, drop-set-add, get_or-drop, length-drop, bytes_eq, Alters}
-use Rattle.asound_conf.specs.Prelude.{ConfRow, group_in_rows, group_of, is_in, IsAbsent, IsNode, no_row, node, row_at, empty, get, group, has_node, text}
-use Rattle.asound_conf.specs.Prelude.{without_name}
+use Rattle.asound_conf.specs.Prelude.{◌<◌, ◌∙◌, ◌∷◌, ◌≡◌, ◌≤◌, cases_Bool, nat_tests, drop-append-le, drop-drop, drop-set-add, get_or-drop, length-drop}
+use Rattle.asound_conf.specs.Prelude.{bytes_eq, Alters, ConfRow, group_in_rows, group_of, is_in, IsAbsent, IsNode, no_row, node, row_at, empty, get, group}
+use Rattle.asound_conf.specs.Prelude.{has_node, text, without_name}
 use Rattle.asound_conf.proofs.Places.{get-none}
 use Rattle.asound_conf.proofs.Rows.{IsAt, get-at, has_node-absent, reaches, within-child, within-push, within-set, without-removed}
 use Rattle.std.proofs.Common as common
@@ -93,16 +93,7 @@ group-child q p name n old new a is is_group differ below =
 
 -- what changes a group twice
 pub Alters-both : (q : ℕ) (old mid new : List ConfRow) → Alters q old mid → Alters q mid new → Alters q old new
-Alters-both q old mid new a b =
-    let first : length old ≤ length mid = a.longer in
-    let second : length mid ≤ length new = b.longer in
-    record {
-      longer = omega arith;
-      each = λ j. elim (a.each j) [
-        | inl same ↦ rw same (b.each j)
-        | inr only ↦ elim (b.each j) [ inl same ↦ inr (only.0, rw (← same) only.1) | inr also ↦ inr (only.0, also.1) ]
-      ];
-    }
+Alters-both q old mid new a b = grind (arith, nat_tests)
 
 -- how many rows are in a group
 abbrev pub members : ℕ → List ConfRow → ℕ

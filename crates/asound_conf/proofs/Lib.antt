@@ -2,7 +2,6 @@ pub mod Below
 pub mod Changes
 pub mod Counts
 pub mod Downs
-pub mod Fields
 pub mod FirstBytes
 pub mod Groups
 pub mod Joined

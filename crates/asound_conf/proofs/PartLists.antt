@@ -1,9 +1,8 @@
 -- The parts of a key, as they are added and looked at.
-use Rattle.asound_conf.specs.Prelude.{ap, append_assoc, arith, Bool, drop, false, get_or, length, List, map, refl, subst, suc, sym, take, true, zero, ℕ, []}
-use Rattle.asound_conf.specs.Prelude.{◌++◌, ◌+◌, ◌-◌, ◌<◌, ◌||◌, ◌∙◌, ◌∷◌, ◌≡◌, ◌≤◌, map-append, list_any, slice_split, part_in, parts_in, span_in}
+use Rattle.asound_conf.specs.Prelude.{ap, append_assoc, arith, Bool, drop, length, List, map, refl, subst, sym, take, ℕ, [], ◌++◌, ◌+◌, ◌-◌, ◌||◌, ◌∙◌, ◌∷◌}
+use Rattle.asound_conf.specs.Prelude.{◌≡◌, ◌≤◌, map-append, list_any, slice_split, part_in, parts_in, span_in}
 use Rattle.asound_conf.specs.Key.{Part, is_dot, key_part, word_parts}
 use Rattle.asound_conf.proofs.Starts.{span-drop, span-take}
-use Rattle.asound_conf.specs.declared.cell.Name.TheVariants as names
 use Rattle.asound_conf.specs.declared.part.Part as code
 
 -- the first parts of a word were added, and those of this rest of it are left
@@ -35,16 +34,7 @@ pub piece-place : (text rest piece : List ℕ) (at : ℕ) → length piece ≤ l
     → span_in text (record { start = at; count = length piece }) ≡ piece
 piece-place text rest piece at within is place = span-take text rest at (length piece) within place ∙ sym is
 
--- a part that passes is one of them
-pub some-at : (p : Part → Bool) (text : List ℕ) (parts : List code.Part) (i : ℕ) (d : code.Part) → i < length parts → p (part_in text (get_or parts i d)) ≡ true → list_any p (parts_in text parts) ≡ true
-some-at p text [] i d inside is = absurd (omega (arith, inside))
-some-at p text (x ∷ xs) zero d inside is = ap (λ (t : Bool). t || list_any p (parts_in text xs)) is
-some-at p text (x ∷ xs) (suc i) d inside is = by (p (part_in text x)) (some-at p text xs i d (omega (arith, inside)) is)
-  where
-    by : (t : Bool) → list_any p (parts_in text xs) ≡ true → (t || list_any p (parts_in text xs)) ≡ true
-    by true e = refl
-    by false e = e
-
--- the part of zeros, beside some parts
-abbrev pub zero_part : code.Part
-zero_part = record { removes = false; name = names.Bytes (record { start = 0; count = 0 }) }
+-- a test over the values of a function
+pub list_any_map : {X Y : Type 0} (p : Y → Bool) (f : X → Y) (xs : List X) → list_any p (map f xs) ≡ list_any (λ x. p (f x)) xs
+list_any_map p f [] = refl
+list_any_map p f (x ∷ xs) = ap (λ b. p (f x) || b) (list_any_map p f xs)

@@ -1,9 +1,9 @@
 -- What an item puts into the group of a row.
 use Rattle.asound_conf.specs.Prelude.{ap, arith, Bool, cond, Err, false, IfErr, IfOk, is_none, length, length-append, List, None, Ok, OnErr, OnOk, Option, refl}
-use Rattle.asound_conf.specs.Prelude.{Result, set, Some, subst, sym, true, ℕ, [], ◌++◌, ◌<◌, ◌||◌, ◌∙◌, ◌∷◌, ◌≡◌, get_or-append_seam, or_parts, get_or_past}
-use Rattle.asound_conf.specs.Prelude.{ConfWhy, answer_view, Leads, Refuses, base, clashes, is_last, meets_text, node_at, node_met, put, put_or_clash, put_there}
-use Rattle.asound_conf.specs.Prelude.{Alters, ConfRow, Contents, group_of, IsAbsent, IsNode, no_row, node, row_at, with_row, empty, Entries, get, group}
-use Rattle.asound_conf.specs.Prelude.{group_in, is_text, text, Tree, without_name, IsKeyStep, IsWay}
+use Rattle.asound_conf.specs.Prelude.{Result, set, Some, subst, sym, true, ℕ, [], ◌++◌, ◌<◌, ◌||◌, ◌∙◌, ◌∷◌, ◌≡◌, get_or-append_seam, or_parts, nat_tests}
+use Rattle.asound_conf.specs.Prelude.{get_or_past, ConfWhy, answer_view, Leads, Refuses, base, clashes, is_last, meets_text, node_at, node_met, put}
+use Rattle.asound_conf.specs.Prelude.{put_or_clash, put_there, Alters, ConfRow, Contents, group_of, IsAbsent, IsNode, no_row, node, row_at, with_row, empty}
+use Rattle.asound_conf.specs.Prelude.{Entries, get, group, group_in, is_text, text, Tree, without_name, IsKeyStep, IsWay}
 use Rattle.asound_conf.specs.Key.{Part, part_named, without_marks}
 use Rattle.asound_conf.proofs.Below.{placed-below, placed-down, with_group}
 use Rattle.asound_conf.proofs.Groups.{Alters-both, Alters-same, get-IsAbsent, get-IsNode, group-push, group-set, has_node-IsAbsent}
@@ -86,21 +86,19 @@ abbrev pub new_row : ℕ → List ℕ → Option (List ℕ) → ConfRow
 new_row q name value = record { parent = Some q; name = name; value = value }
 
 -- what adds a row for a name that isn't there, unless memory runs out
-pub push-Leads : (r : Result ℕ ConfWhy) (q : ℕ) (name : List ℕ) (value : Option (List ℕ)) (old new : Contents) → IsAbsent old.rows q name → q < length old.rows → OnOk r (new ≡ with_row (new_row q name value) old) → IfErr r (λ w. w ≡ why.Memory)
-    → Leads r (group_of q new.rows) (put_or_clash value (part_named name ∷ []) (group_of q old.rows))
-push-Leads (Ok n) q name value old new none inside pushed memory =
-    placed-new value name (group_of q old.rows) (get-IsAbsent old.rows q name none)
-    ∙ ap Ok (sym (group-push old.rows q (new_row q name value) inside refl (has_node-IsAbsent old.rows q name none)))
-    ∙ ap (λ (c : Contents). Ok (group_of q c.rows)) (sym pushed)
-push-Leads (Err cause) q name value old new none inside pushed memory = subst (λ w. Refuses w (put_or_clash value (part_named name ∷ []) (group_of q old.rows))) (sym memory) tt
+pub record IsPushed (r : Result ℕ ConfWhy) (q : ℕ) (name : List ℕ) (own : Option (List ℕ)) (old new : Contents) : Type 0 where
+  pub value : Leads r (group_of q new.rows) (put_or_clash own (part_named name ∷ []) (group_of q old.rows))
+  pub text : new.text ≡ old.text
+  pub alters : Alters q old.rows new.rows
 
-pub push-text : (r : Result ℕ ConfWhy) (q : ℕ) (name : List ℕ) (value : Option (List ℕ)) (old new : Contents) → OnOk r (new ≡ with_row (new_row q name value) old) → OnErr r (new ≡ old) → new.text ≡ old.text
-push-text (Ok n) q name value old new pushed kept = ap (λ (c : Contents). c.text) pushed
-push-text (Err cause) q name value old new pushed kept = ap (λ (c : Contents). c.text) kept
-
-pub push-Alters : (r : Result ℕ ConfWhy) (q : ℕ) (name : List ℕ) (value : Option (List ℕ)) (old new : Contents) → OnOk r (new ≡ with_row (new_row q name value) old) → OnErr r (new ≡ old) → Alters q old.rows new.rows
-push-Alters (Ok n) q name value old new pushed kept = subst (λ (c : Contents). Alters q old.rows c.rows) (sym pushed) (Alters-push q (new_row q name value) old.rows refl)
-push-Alters (Err cause) q name value old new pushed kept = subst (λ (c : Contents). Alters q old.rows c.rows) (sym kept) (Alters-same q old.rows)
+pub pushed : (r : Result ℕ ConfWhy) (q : ℕ) (name : List ℕ) (own : Option (List ℕ)) (old new : Contents) → IsAbsent old.rows q name → q < length old.rows → OnOk r (new ≡ with_row (new_row q name own) old) → IfErr r (λ w. w ≡ why.Memory) → OnErr r (new ≡ old)
+    → IsPushed r q name own old new
+pushed (Ok n) q name own old new none inside added memory kept = rw added (record {
+  value = placed-new own name (group_of q old.rows) (get-IsAbsent old.rows q name none) ∙ ap Ok (sym (group-push old.rows q (new_row q name own) inside refl (has_node-IsAbsent old.rows q name none)));
+  text = refl;
+  alters = Alters-push q (new_row q name own) old.rows refl;
+})
+pushed (Err cause) q name own old new none inside added memory kept = rw (memory, kept) (record { value = tt; text = refl; alters = Alters-same q old.rows })
 
 -- the row that was added is where its name leads
 IsNode-push : (q : ℕ) (name : List ℕ) (value : Option (List ℕ)) (rows : List ConfRow) → q < length rows → IsNode (rows ++ new_row q name value ∷ []) q name (length rows)
@@ -128,12 +126,7 @@ IsKeyStep-IsNode rows q name n is is_group = record { stays = refl; is_node = is
 
 -- an answer that was made of another one
 pub Leads-seen : {X S T : Type 0} (r : Result X ConfWhy) (new : S) (f : S → T) (given : Result S ConfWhy) → Leads r new given → Leads r (f new) (answer_view f given)
-Leads-seen (Ok x) new f given leads = ap (answer_view f) leads
-Leads-seen (Err cause) new f given leads = refused cause f given leads
-  where
-    refused : {S T : Type 0} (cause : ConfWhy) (f : S → T) (given : Result S ConfWhy) → Refuses cause given → Refuses cause (answer_view f given)
-    refused why.Memory f given refuses = tt
-    refused cause f given refuses = ap (answer_view f) refuses
+Leads-seen r new f given leads = grind (arith, nat_tests)
 
 pub Leads-along : {X S : Type 0} (r : Result X ConfWhy) (new other : S) (given wanted : Result S ConfWhy) → new ≡ other → given ≡ wanted → Leads r new given → Leads r other wanted
 Leads-along r new other given wanted same is leads = subst (λ n. Leads r n wanted) same (subst (λ w. Leads r new w) is leads)

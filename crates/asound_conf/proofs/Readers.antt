@@ -110,16 +110,13 @@ open_group-state r c d path key here outer awaits line group array short same le
     let ways : without_marks (front ++ parts) ≡ path_in d.text (path ++ key) ++ [] =
     settled-path_in c.text path key ∙ sym (path_in-append c.text path key) ∙ ap (λ t. path_in t (path ++ key)) (sym same) ∙ sym (append-nil (path_in d.text (path ++ key))) in
     let given = put_or_clash None (front ++ parts) (group_of 0 c.rows) in
-    let shallow : nat_le 16 (length (front ++ parts)) ≡ false = ap (nat_le 16) count ∙ not-deep (length path + length key) short in
+    let shallow : nat_le 16 (length (front ++ parts)) ≡ false = rw count (grind (arith, nat_tests)) in
     let new = state_in d (path ++ key) [] (record { line = line; array = array; values = 0; names = length (path ++ key); group = group }) (here ∷ outer) (Item false) in
     let at : in_group s line array (group_of 0 d.rows) ≡ new =
     λ i. record { root = group_of 0 d.rows; path = ways i; here = record { line = line; array = array; names = names_are i; values = 0 }; outer = bracket_of here ∷ map bracket_of outer; awaits = Item false } in
     Leads-along r (in_group s line array (group_of 0 d.rows)) new (answer_view (in_group s line array) given) (open_group s line array) at
     (sym (ap (λ b. cond b (Err why.Deep) (answer_view (in_group s line array) given)) shallow))
     (Leads-seen r (group_of 0 d.rows) (in_group s line array) given leads)
-  where
-    not-deep : (n : ℕ) → n < 16 → nat_le 16 n ≡ false
-    not-deep n short = grind (arith, nat_tests)
 
 -- a cause of what was put is the cause of the mark that opens a group there
 pub open_group-refused : (cause : ConfWhy) (c : Contents) (path key : List part.Part) (here : code.Bracket) (outer : List code.Bracket) (awaits : Awaits) (line : ℕ) (array : Bool) → length path + length key < 16
@@ -135,11 +132,8 @@ open_group-deep c path key here outer awaits line array deep =
     let front = path_in c.text path in
     let parts = parts_in c.text key in
     let count : length (front ++ parts) ≡ length path + length key = length-append front parts ∙ ap₂ (λ a b. a + b) (length-path_in c.text path) (length-parts_in c.text key) in
-    let is_deep : nat_le 16 (length (front ++ parts)) ≡ true = ap (nat_le 16) count ∙ too-deep (length path + length key) deep in
+    let is_deep : nat_le 16 (length (front ++ parts)) ≡ true = rw count (grind (arith, nat_tests)) in
     ap (λ b. cond b (Err why.Deep) (answer_view (in_group s line array) (put_or_clash None (front ++ parts) (group_of 0 c.rows)))) is_deep
-  where
-    too-deep : (n : ℕ) → 16 ≤ n → nat_le 16 n ≡ true
-    too-deep n deep = grind (arith, nat_tests)
 
 -- after a bracket that was closed
 pub close_to-state : (c : Contents) (path : List part.Part) (here around : code.Bracket) (outer : List code.Bracket) (awaits : Awaits) → around.names ≤ length path
@@ -149,63 +143,19 @@ close_to-state c path here around outer awaits low =
     let ways : take around.names (path_in c.text path ++ []) ≡ path_in c.text (take around.names path) ++ [] = take-path_in around.names c.text path [] low ∙ sym (append-nil (path_in c.text (take around.names path))) in
     λ i. Ok (record { root = group_of 0 c.rows; path = ways i; here = bracket_of around; outer = map bracket_of outer; awaits = Item true })
 
--- the brackets around the innermost, once rows changed that are after its group, or in it
-pub AreAround-kept : (c d : Contents) (path : List part.Part) (here : code.Bracket) (outer : List code.Bracket) (group : ℕ) → d.text ≡ c.text → here.group ≤ group → ((way : List Part) (last : ℕ) → last ≤ group → IsWay c.rows 0 way last → IsWay d.rows 0 way last)
-    → AreAround c path here outer → AreAround d path here outer
-AreAround-kept c d path here [] group same low kept around = tt
-AreAround-kept c d path here (b ∷ outer) group same low kept around =
-    let lower : b.group ≤ here.group = around.1 in (
-      around.0,
-      around.1,
-      subst (λ t. IsWay d.rows 0 (without_marks (parts_in t (take b.names path))) b.group) (sym same) (kept (without_marks (parts_in c.text (take b.names path))) b.group (omega arith) around.2),
-      AreAround-kept c d path b outer group same (omega arith) kept around.3,
+-- the brackets around a bracket, where the ways that the path gives as far as its own are ways of the new path too
+AreAround-along : (c d : Contents) (path way : List part.Part) (here new : code.Bracket) (outer : List code.Bracket) → here.names ≤ new.names → here.group ≤ new.group
+    → ((n last : ℕ) → n ≤ here.names → last ≤ here.group → IsWay c.rows 0 (without_marks (parts_in c.text (take n path))) last → IsWay d.rows 0 (without_marks (parts_in d.text (take n way))) last)
+    → AreAround c path here outer → AreAround d way new outer
+AreAround-along c d path way here new [] longer later kept around = tt
+AreAround-along c d path way here new (b ∷ outer) longer later kept around =
+    let names : b.names ≤ here.names = around.0 in
+    let group : b.group ≤ here.group = around.1 in (
+      omega arith,
+      omega arith,
+      kept b.names b.group names group around.2,
+      AreAround-along c d path way b b outer (omega arith) (omega arith) (λ n last low early. kept n last (omega arith) (omega arith)) around.3,
     )
-
--- a longer path, or a shorter one, that leads as far as all of them
-pub AreAround-longer : (c : Contents) (path more : List part.Part) (here : code.Bracket) (outer : List code.Bracket) → here.names ≤ length path → AreAround c path here outer → AreAround c (path ++ more) here outer
-AreAround-longer c path more here [] low around = tt
-AreAround-longer c path more here (b ∷ outer) low around =
-    let lower : b.names ≤ here.names = around.0 in (
-      around.0,
-      around.1,
-      subst (λ p. IsWay c.rows 0 (without_marks (parts_in c.text p)) b.group) (sym (take-append-le b.names path more (omega arith))) around.2,
-      AreAround-longer c path more b outer (omega arith) around.3,
-    )
-
-AreAround-shorter : (c : Contents) (n : ℕ) (path : List part.Part) (here : code.Bracket) (outer : List code.Bracket) → here.names ≤ n → AreAround c path here outer → AreAround c (take n path) here outer
-AreAround-shorter c n path here [] low around = tt
-AreAround-shorter c n path here (b ∷ outer) low around =
-    let lower : b.names ≤ here.names = around.0 in (
-      around.0,
-      around.1,
-      subst (λ p. IsWay c.rows 0 (without_marks (parts_in c.text p)) b.group) (sym (take-take b.names n path (omega arith))) around.2,
-      AreAround-shorter c n path b outer (omega arith) around.3,
-    )
-
--- the brackets around one that is opened
-pub AreAround-open : (c : Contents) (path key : List part.Part) (here new : code.Bracket) (outer : List code.Bracket) → IsHere c path here → here.names ≤ new.names → here.group ≤ new.group → AreAround c path here outer → AreAround c (path ++ key) new (here ∷ outer)
-AreAround-open c path key here new outer is longer later around =
-    let depth : here.names ≡ length path = is.depth in
-    let same : take here.names (path ++ key) ≡ path = ap (λ n. take n (path ++ key)) depth ∙ take_at path key (length path) refl in
-    (longer, later, subst (λ p. IsWay c.rows 0 (without_marks (parts_in c.text p)) here.group) (sym same) is.way, AreAround-longer c path key here outer (omega arith) around)
-
--- the bracket around one that is closed is then the innermost
-pub IsHere-around : (c : Contents) (path : List part.Part) (here around : code.Bracket) (outer : List code.Bracket) → IsHere c path here → AreAround c path here (around ∷ outer) → IsHere c (take around.names path) around
-IsHere-around c path here around outer is are =
-    let depth : here.names ≡ length path = is.depth in
-    let inside : here.group < length c.rows = is.inside in
-    let low : around.names ≤ here.names = are.0 in
-    let lower : around.group ≤ here.group = are.1 in
-    record { inside = omega arith; depth = sym (length-take-le around.names path (omega arith)); way = are.2 }
-
-pub AreAround-close : (c : Contents) (path : List part.Part) (here around : code.Bracket) (outer : List code.Bracket) → AreAround c path here (around ∷ outer) → AreAround c (take around.names path) around outer
-AreAround-close c path here around outer are = AreAround-shorter c around.names path around outer (omega arith) are.3
-
--- the brackets around one that counts one value more
-AreAround-values : (c : Contents) (path : List part.Part) (here new : code.Bracket) (outer : List code.Bracket) → new.names ≡ here.names → new.group ≡ here.group → AreAround c path here outer → AreAround c path new outer
-AreAround-values c path here new [] names_are group_is around = tt
-AreAround-values c path here new (b ∷ outer) names_are group_is around =
-    (subst (λ n. b.names ≤ n) (sym names_are) around.0, subst (λ n. b.group ≤ n) (sym group_is) around.1, around.2, around.3)
 
 pub number-open : (c : Contents) (path key : List part.Part) (here : code.Bracket) (outer : List code.Bracket) (awaits : Awaits) (next : ℕ) → length key ≡ 0 → IsOpen c path key here outer awaits
     → IsOpen c path (key ++ record { removes = false; name = names.Number here.values } ∷ []) (record { line = here.line; array = here.array; values = next; names = here.names; group = here.group }) outer (Value false)
@@ -215,8 +165,8 @@ number-open c path key here outer awaits next none is =
     subst (λ k. IsOpen c path (k ++ p ∷ []) new outer (Value false)) (sym (nil_from_length key none))
     (record {
       keyed = (omega arith, meets_text-one (part_in c.text p) (group_of here.group c.rows));
-      innermost = record { inside = is.innermost.inside; depth = is.innermost.depth; way = is.innermost.way };
-      around = AreAround-values c path here new outer refl refl is.around;
+      innermost = assumption (is.innermost);
+      around = AreAround-along c c path path here new outer (omega arith) (omega arith) (λ n last low early way. way) is.around;
     })
 
 -- a reader after an item that was put
@@ -224,21 +174,18 @@ pub text-open : (c d : Contents) (path key : List part.Part) (here : code.Bracke
     → ((way : List Part) (last : ℕ) → last ≤ here.group → IsWay c.rows 0 way last → IsWay d.rows 0 way last) → IsOpen d path [] here outer (Item separator)
 text-open c d path key here outer awaits separator is same longer kept =
     let inside : here.group < length c.rows = is.innermost.inside in
+    let stays : (way : List part.Part) (last : ℕ) → last ≤ here.group → IsWay c.rows 0 (without_marks (parts_in c.text way)) last → IsWay d.rows 0
+    (without_marks (parts_in d.text way)) last =
+    λ way last early leads. subst (λ t. IsWay d.rows 0 (without_marks (parts_in t way)) last) (sym same) (kept (without_marks (parts_in c.text way)) last early leads) in
     record {
       keyed = refl;
-      innermost = record { inside = omega arith; depth = is.innermost.depth; way = subst (λ t. IsWay d.rows 0 (without_marks (parts_in t path)) here.group) (sym same) (kept (without_marks (parts_in c.text path)) here.group (omega arith) is.innermost.way) };
-      around = AreAround-kept c d path here outer here.group same (omega arith) kept is.around;
+      innermost = record { inside = omega arith; depth = is.innermost.depth; way = stays path here.group (omega arith) is.innermost.way };
+      around = AreAround-along c d path path here here outer (omega arith) (omega arith) (λ n last low. stays (take n path) last) is.around;
     }
 
 -- a key that isn't refused
 cause-none : (names : ℕ) (parts : List Part) (g : Entries) → key_cause names parts g ≡ None → meets_text parts g ≡ false
-cause-none names parts g none = by_tests (key_defect parts) (nat_lt 16 (names + length parts)) (meets_text parts g) none
-  where
-    by_tests : (defect : Option ConfWhy) (a b : Bool) → or_cause defect (cond a (Some why.Deep) (cond b (Some why.Kind) None)) ≡ None → b ≡ false
-    by_tests (Some w) a b none = cc
-    by_tests None true b none = cc
-    by_tests None false true none = cc
-    by_tests None false false none = refl
+cause-none names parts g none = grind (arith, nat_tests)
 
 pub key-open : (c : Contents) (path key : List part.Part) (here : code.Bracket) (outer : List code.Bracket) (awaits : Awaits) → IsOpen c path [] here outer awaits → 1 ≤ length key → key_cause here.names (parts_in c.text key) (group_of here.group c.rows) ≡ None → IsOpen c path key here outer (Value true)
 key-open c path key here outer awaits is some none = record { keyed = (some, cause-none here.names (parts_in c.text key) (group_of here.group c.rows) none); innermost = is.innermost; around = is.around }
@@ -249,23 +196,31 @@ pub group-open : (c d : Contents) (path key : List part.Part) (here : code.Brack
     → IsOpen d (path ++ key) [] (record { line = line; array = array; values = 0; names = length (path ++ key); group = group }) (here ∷ outer) (Item false)
 unfolding path_in
 group-open c d path key here outer awaits line group array is same longer kept later inside way =
-    let new : code.Bracket = record { line = line; array = array; values = 0; names = length (path ++ key); group = group } in
     let before = text-open c d path key here outer awaits true is same longer kept in
     let depth : here.names ≡ length path = is.innermost.depth in
     let count : length (path ++ key) ≡ length path + length key = length-append path key in
+    let front : take here.names (path ++ key) ≡ path = ap (λ n. take n (path ++ key)) depth ∙ take_at path key (length path) refl in
+    let longer_path = AreAround-along d d path (path ++ key) here here outer (omega arith) (omega arith)
+    (λ n last low early leads. rw (take-append-le n path key (omega arith)) leads) before.around in
     record {
       keyed = refl;
       innermost = record { inside = inside; depth = refl; way = subst (λ t. IsWay d.rows 0 (without_marks (parts_in t (path ++ key))) group) (sym same) (subst (λ w. IsWay d.rows 0 w group) (sym (path_in-append c.text path key)) way) };
-      around = AreAround-open d path key here new outer before.innermost (omega arith) (omega arith) before.around;
+      around = (omega arith, omega arith, rw front before.innermost.way, longer_path);
     }
 
 -- a reader after a bracket that was closed
 pub close-open : (c : Contents) (path key : List part.Part) (here around : code.Bracket) (outer : List code.Bracket) (awaits : Awaits) → IsOpen c path key here (around ∷ outer) awaits → IsOpen c (take around.names path) [] around outer (Item true)
-close-open c path key here around outer awaits is = record {
-  keyed = refl;
-  innermost = IsHere-around c path here around outer is.innermost is.around;
-  around = AreAround-close c path here around outer is.around;
-}
+close-open c path key here around outer awaits is =
+    let depth : here.names ≡ length path = is.innermost.depth in
+    let inside : here.group < length c.rows = is.innermost.inside in
+    let low : around.names ≤ here.names = is.around.0 in
+    let lower : around.group ≤ here.group = is.around.1 in
+    record {
+      keyed = refl;
+      innermost = record { inside = omega arith; depth = sym (length-take-le around.names path (omega arith)); way = is.around.2 };
+      around = AreAround-along c c path (take around.names path) around around outer (omega arith) (omega arith)
+          (λ n last few early leads. rw (take-take n around.names path (omega arith)) leads) is.around.3;
+    }
 
 pub close-leads : (c : Contents) (path key : List part.Part) (here around : code.Bracket) (outer : List code.Bracket) (awaits : Awaits) → IsOpen c path key here (around ∷ outer) awaits → length key ≡ 0
     → close_to (state_in c path key here (around ∷ outer) awaits) (map bracket_of (around ∷ outer)) ≡ Ok (state_in c (take around.names path) [] around outer (Item true))

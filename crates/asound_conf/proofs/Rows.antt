@@ -1,18 +1,15 @@
 -- The groups of rows: what is found in them, and what one row more or another row changes.
 use Rattle.asound_conf.specs.Prelude.{ap, ap₂, arith, Bool, cond, drop, false, inl, inr, length, length-append, List, None, Option, refl, Some, subst, suc, sym}
-use Rattle.asound_conf.specs.Prelude.{true, zero, ℕ, [], ◌++◌, ◌+◌, ◌-◌, ◌<◌, ◌||◌, ◌∙◌, ◌∷◌, ◌≡◌, ◌⊎◌, cases_Bool, or_cases, or_parts, or_right, nat_tests}
-use Rattle.asound_conf.specs.Prelude.{length-set, ◌==◌, bytes_eq, Alters, ConfRow, group_in_rows, is_in, IsOnlyIn, node, row_at, empty, entry, get, group}
-use Rattle.asound_conf.specs.Prelude.{has_node, text, without_name}
+use Rattle.asound_conf.specs.Prelude.{true, zero, ℕ, [], ◌++◌, ◌+◌, ◌-◌, ◌<◌, ◌||◌, ◌∙◌, ◌∷◌, ◌≡◌, ◌⊎◌, cases_Bool, or_parts, or_right, nat_tests, length-set}
+use Rattle.asound_conf.specs.Prelude.{◌==◌, bytes_eq, Alters, ConfRow, group_in_rows, is_in, IsOnlyIn, node, row_at, empty, entry, get, group, has_node, text}
+use Rattle.asound_conf.specs.Prelude.{without_name}
 use Rattle.asound_conf.proofs.Places.{bytes_eq-self}
 use Rattle.std.proofs.Common as common
 use Rattle.asound_conf.specs.Tree as tree
 
 -- a row that is in a group
 pub is_in-Some : (p : ℕ) (parent : Option ℕ) → parent ≡ Some p → is_in p parent ≡ true
-is_in-Some p parent is = ap (is_in p) is ∙ same
-  where
-    same : (p == p) ≡ true
-    same = grind (arith, nat_tests)
+is_in-Some p parent is = grind (arith, nat_tests)
 
 pub is_in-true : (p : ℕ) (parent : Option ℕ) → is_in p parent ≡ true → parent ≡ Some p
 is_in-true p None is = cc
@@ -70,9 +67,7 @@ reaches q d first [] = q == d
 reaches q d first (row ∷ rows) = cond (is_in d row.parent) (reaches q first (suc first) rows || reaches q d (suc first) rows) (reaches q d (suc first) rows)
 
 cond-true : (b c : Bool) → cond b (c || true) true ≡ true
-cond-true true true = refl
-cond-true true false = refl
-cond-true false c = refl
+cond-true b c = grind (arith, nat_tests)
 
 pub reaches-self : (q first : ℕ) (rows : List ConfRow) → reaches q q first rows ≡ true
 unfolding reaches
@@ -88,13 +83,7 @@ reaches-one q d e first (row ∷ rows) differ low lower is = by_tests (λ x y. r
     by_tests : ((x y : ℕ) → (x ≡ y → ⊥) → x < suc first → y < suc first → reaches q x (suc first) rows ≡ true → reaches q y (suc first) rows ≡ false)
         → (b c : Bool) → is_in d row.parent ≡ b → is_in e row.parent ≡ c → cond b (reaches q first (suc first) rows || reaches q d (suc first) rows) (reaches q d (suc first) rows) ≡ true
         → cond c (reaches q first (suc first) rows || reaches q e (suc first) rows) (reaches q e (suc first) rows) ≡ false
-    by_tests again true true in_d in_e is = let other = is_in-one d e row.parent differ in_d in cc
-    by_tests again true false in_d in_e is = elim (or_cases (reaches q first (suc first) rows) (reaches q d (suc first) rows) is) [
-      | inl below ↦ again first e (λ same. omega arith) (omega arith) (omega arith) below
-      | inr below ↦ again d e differ (omega arith) (omega arith) below
-    ]
-    by_tests again false true in_d in_e is = rw (again d first (λ same. omega arith) (omega arith) (omega arith) is, again d e differ (omega arith) (omega arith) is) refl
-    by_tests again false false in_d in_e is = again d e differ (omega arith) (omega arith) is
+    by_tests again b c in_d in_e is = grind (arith, nat_tests)
 
 -- an earlier number isn't below a later one
 reaches-later : (q d first : ℕ) (rows : List ConfRow) → (q ≡ d → ⊥) → q < first → reaches q d first rows ≡ false

@@ -1,6 +1,6 @@
 -- Where the tokens of a text are in it.
-use Rattle.asound_conf.specs.Prelude.{ap, arith, Bool, drop, false, inl, inr, length, List, refl, sym, take, true, ℕ, ◌+◌, ◌-◌, ◌<◌, ◌^◌, ◌∙◌, ◌≡◌, ◌≤◌}
-use Rattle.asound_conf.specs.Prelude.{cond-true, drop-drop, drop-take, length-drop, length-take, take-take, if◌then◌else◌, slice_index, ◌==◌, Mark, AreAt}
+use Rattle.asound_conf.specs.Prelude.{ap, arith, Bool, drop, inl, inr, length, List, subst, sym, take, true, ℕ, ◌+◌, ◌-◌, ◌<◌, ◌^◌, ◌∙◌, ◌≡◌, ◌≤◌, cond-true}
+use Rattle.asound_conf.specs.Prelude.{nat_tests, drop-drop, drop-take, length-drop, length-take, take-take, if◌then◌else◌, slice_index, ◌==◌, Mark, AreAt}
 use Rattle.asound_conf.specs.Prelude.{AreBefore, IsBefore, IsSuffix, span_in, bad, end_at, ends_word, quoted, quoted_end, token_at, token_end, token_of, word}
 use Rattle.asound_conf.proofs.FirstBytes.{first-cases, token_at-quote, token_at-word, token_end-quote, token_end-word}
 use Rattle.asound_conf.specs.declared.error.ConfWhy.TheVariants as why
@@ -23,12 +23,7 @@ IsSuffix-drop text rest n suffix within =
 
 -- the end of a text's end
 pub IsSuffix-both : (text rest last : List ℕ) → IsSuffix text rest → IsSuffix rest last → IsSuffix text last
-IsSuffix-both text rest last first second =
-    let place : length text - length last ≡ (length text - length rest) + (length rest - length last) = omega (arith, first.short, second.short) in
-    record {
-      short = omega (arith, first.short, second.short);
-      is = ap (λ (k : ℕ). drop k text) place ∙ sym (drop-drop (length rest - length last) (length text - length rest) text) ∙ ap (drop (length rest - length last)) first.is ∙ second.is;
-    }
+IsSuffix-both text rest last first second = subst (IsSuffix text) second.is (IsSuffix-drop text rest (length rest - length last) first (omega arith))
 
 -- bytes in a text's end are in the text
 AreBefore-suffix : (text rest last : List ℕ) (after : ℕ) (bytes : List ℕ) → IsSuffix text rest → AreBefore rest last after bytes → AreBefore text last after bytes
@@ -49,16 +44,10 @@ IsBefore-suffix text rest last (lent.Bad w) suffix before = tt
 
 -- bytes before a text's end are at the place that the lengths say
 pub AreAt-before : (text rest : List ℕ) (after : ℕ) (bytes : List ℕ) (start : ℕ) → length text < 2 ^ 32 → start ≡ length text - (length bytes + after + length rest) → AreBefore text rest after bytes → AreAt text start bytes
-AreAt-before text rest after bytes start small at before = record {
-  are = ap (λ (k : ℕ). take (length bytes) (drop k text)) at ∙ before.are;
-  small = omega (arith, small, at, before.room);
-}
+AreAt-before text rest after bytes start small at before = grind (arith, nat_tests)
 
 quoted-no_word : (a b c : Bool) (w q : List ℕ) → word w ≡ (if a then bad why.Byte else if b then bad why.Escape else if c then quoted q else bad why.Unclosed) → ⊥
-quoted-no_word true b c w q e = cc
-quoted-no_word false true c w q e = cc
-quoted-no_word false false true w q e = cc
-quoted-no_word false false false w q e = cc
+quoted-no_word a b c w q e = grind (arith, nat_tests)
 
 -- a word is the first of a text, and the text goes on after it
 pub record IsWordFirst (text w : List ℕ) : Type 0 where
@@ -80,10 +69,7 @@ pub record IsQuotedFirst (text q : List ℕ) : Type 0 where
   pub is : q ≡ take (quoted_end (slice_index text 0) (drop 1 text)) (drop 1 text)
 
 quoted-it : (a b c : Bool) (q x : List ℕ) → quoted q ≡ (if a then bad why.Byte else if b then bad why.Escape else if c then quoted x else bad why.Unclosed) → (c ≡ true) × (q ≡ x)
-quoted-it true b c q x e = cc
-quoted-it false true c q x e = cc
-quoted-it false false true q x e = (refl, cc)
-quoted-it false false false q x e = cc
+quoted-it a b c q x e = grind (arith, nat_tests)
 
 pub quoted-first : (text q : List ℕ) → quoted q ≡ token_at text → IsQuotedFirst text q
 quoted-first text q e = elim (first-cases text) [
@@ -96,31 +82,25 @@ quoted-first text q e = elim (first-cases text) [
   ]
 ]
 
+-- bytes of the first token of a text, which are before what follows it
+AreBefore-first : (text rest bytes : List ℕ) (at n after : ℕ) → bytes ≡ take n (drop at text) → token_end text ≡ at + n + after → rest ≡ drop (token_end text) text → token_end text ≤ length text
+    → AreBefore text rest after bytes
+AreBefore-first text rest bytes at n after is end follows within =
+    let size : length bytes ≡ n = omega (arith, ap length is, length-take n (drop at text), length-drop at text, end, within) in
+    let left : length rest ≡ length text - token_end text = ap length follows ∙ length-drop (token_end text) text in
+    let place : length text - (length bytes + after + length rest) ≡ at = omega (arith, size, left, within, end) in
+    record { room = omega (arith, size, left, within, end); are = rw (place, size) (sym is) }
+
 -- the first token of a text is before what follows
 pub IsBefore-first : (text rest : List ℕ) (token : code.Token) → token_of token ≡ token_at text → rest ≡ drop (token_end text) text → token_end text ≤ length text → IsBefore text rest token
 IsBefore-first text rest (lent.Mark m) is follows within = tt
 IsBefore-first text rest (lent.Bad w) is follows within = tt
 IsBefore-first text rest (lent.Word w) is follows within =
     let it = word-first text w.now is in
-    let size : length w.now ≡ token_end text = ap length it.is ∙ length-take (end_at ends_word text) text ∙ (let end = it.end in omega (arith, end, within)) in
-    let left : length rest ≡ length text - token_end text = ap length follows ∙ length-drop (token_end text) text in
-    let none : length text - (length w.now + 0 + length rest) ≡ 0 = omega (arith, size, left, within) in
-    record {
-      room = omega (arith, size, left, within);
-      are = ap (λ (k : ℕ). take (length w.now) (drop k text)) none ∙ ap (λ (k : ℕ). take k text) (size ∙ it.end) ∙ sym it.is;
-    }
+    AreBefore-first text rest w.now 0 (end_at ends_word text) 0 it.is (omega (arith, it.end)) follows within
 IsBefore-first text rest (lent.Quoted q) is follows within =
     let it = quoted-first text q.now is in
-    let room : length (drop 1 text) ≡ length text - 1 = length-drop 1 text in
-    let size : length q.now ≡ quoted_end (slice_index text 0) (drop 1 text) =
-    ap length it.is ∙ length-take (quoted_end (slice_index text 0) (drop 1 text)) (drop 1 text) ∙ (let end = it.end in omega (arith, end, within, room)) in
-    let left : length rest ≡ length text - token_end text = ap length follows ∙ length-drop (token_end text) text in
-    let end = it.end in
-    let one : length text - (length q.now + 1 + length rest) ≡ 1 = omega (arith, size, left, within, end) in
-    record {
-      room = omega (arith, size, left, within, end);
-      are = ap (λ (k : ℕ). take (length q.now) (drop k text)) one ∙ ap (λ (k : ℕ). take k (drop 1 text)) size ∙ sym it.is;
-    }
+    AreBefore-first text rest q.now 1 (quoted_end (slice_index text 0) (drop 1 text)) 1 it.is (omega (arith, it.end)) follows within
 
 -- parts of bytes are where they are in a text
 pub span-take : (text bytes : List ℕ) (start n : ℕ) → n ≤ length bytes → span_in text (record { start = start; count = length bytes }) ≡ bytes → span_in text (record { start = start; count = n }) ≡ take n bytes

@@ -21,9 +21,7 @@ tokens-first line (b ∷ text) some moves =
 
 -- a blank or a comment is skipped
 pub tokens-skipped : (line : ℕ) (text : List ℕ) → 0 < length text → 0 < token_end text → is_skipped (slice_index text 0) ≡ true → tokens 0 line text ≡ tokens 0 (line_after line (slice_index text 0)) (drop (token_end text) text)
-tokens-skipped line text some moves skipped =
-    let rest = tokens 0 (line_after line (slice_index text 0)) (drop (token_end text) text) in
-    tokens-first line text some moves ∙ ap (λ b. cond b rest (record { line = line; token = token_at text } ∷ rest)) skipped
+tokens-skipped line text some moves skipped = rw (tokens-first line text some moves, skipped) refl
 
 -- no line ends with what isn't skipped
 line_after-same : (line b : ℕ) → is_skipped b ≡ false → line_after line b ≡ line
@@ -31,12 +29,7 @@ line_after-same line b kept = grind (arith, nat_tests)
 
 -- a token, and those that follow
 pub tokens-token : (line : ℕ) (text : List ℕ) → 0 < length text → 0 < token_end text → is_skipped (slice_index text 0) ≡ false → tokens 0 line text ≡ record { line = line; token = token_at text } ∷ tokens 0 line (drop (token_end text) text)
-tokens-token line text some moves kept =
-    let after = drop (token_end text) text in
-    let rest = tokens 0 (line_after line (slice_index text 0)) after in
-    tokens-first line text some moves
-    ∙ ap (λ b. cond b rest (record { line = line; token = token_at text } ∷ rest)) kept
-    ∙ ap (λ l. let one : LineToken = record { line = line; token = token_at text } in one ∷ tokens 0 l after) (line_after-same line (slice_index text 0) kept)
+tokens-token line text some moves kept = rw (tokens-first line text some moves, kept, line_after-same line (slice_index text 0) kept) refl
 
 -- nothing has no tokens
 pub tokens-none : (taken line : ℕ) (text : List ℕ) → length text ≡ 0 → tokens taken line text ≡ []

@@ -87,13 +87,6 @@ or_refuse cause None = Err cause
 abbrev pub field : List ℕ → Entries → Result ℕ ConfWhy
 field name slave = or_refuse why.Number (field_in (get name slave))
 
--- two number fields of a slave
-unfoldable pub field_pair : List ℕ → List ℕ → Entries → Result (ℕ × ℕ) ConfWhy
-field_pair first second slave = do
-  a ← field first slave
-  b ← field second slave
-  Ok (a, b)
-
 -- the number fields of a slave, in this order
 unfoldable pub slave_numbers : Entries → Result Numbers ConfWhy
 slave_numbers slave = do
@@ -205,22 +198,6 @@ abbrev pub device_bindings : Option Tree → ℕ → Result (Option (List ℕ)) 
 device_bindings (Some (group g)) channels = bindings_in (numbered_values g (count_of_names g)) channels
 device_bindings (Some (text t)) channels = Err why.BindingKey
 device_bindings None channels = Ok None
-
--- the card of a slave
-unfoldable pub slave_card : Entries → Result Card ConfWhy
-slave_card slave = do
-  fits ← format_of (get (codes "format") slave)
-  numbers ← slave_numbers slave
-  card_of_slave numbers
-
--- the device of this definition
-unfoldable pub device_in : Entries → Entries → Result Device ConfWhy
-device_in root definition = do
-  slave ← device_slave root (get (codes "slave") definition)
-  kind ← device_kind (get (codes "type") definition)
-  card ← slave_card slave
-  bindings ← device_bindings (get (codes "bindings") definition) card.channels
-  Ok (record { kind = kind; channels = card.channels; rate = card.rate; period = card.period; ring = card.ring; bindings = bindings })
 
 -- the device of this name, or why there is none
 unfoldable pub device_by : Entries → List ℕ → Result Device ConfWhy

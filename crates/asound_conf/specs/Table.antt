@@ -94,9 +94,13 @@ abbrev pub hash_by : ℕ → Option ℕ → List ℕ → ℕ
 hash_by p (Some number) name = (p * 8 % 2 ^ 32 + number % 2 ^ 32) % 2 ^ 32
 hash_by p None name = (p + fold hash_with_byte 0 name) % 2 ^ 32
 
+-- a hash of a group's number and a name, which may be the decimal text of a number
+abbrev pub hash_of : ℕ → List ℕ → ℕ
+hash_of p name = hash_by p (decimal_of 18446744073709551615 name) name
+
 -- the bucket of a group's number and a name, where there are so many
 unfoldable pub bucket_of : ℕ → ℕ → List ℕ → ℕ
-bucket_of buckets p name = bit_and (hash_by p (decimal_of 18446744073709551615 name) name) (buckets - 1)
+bucket_of buckets p name = bit_and (hash_of p name) (buckets - 1)
 
 -- what is beside the cells
 abbrev pub no_cell : Cell

@@ -126,13 +126,6 @@ fn name_begins(text: &[u8], name: Name, b: u8) -> bool
     }
 }
 
-/// Whether a part is the name of a function.
-fn is_function(text: &[u8], part: Part) -> bool
-    ensures { result ≡ is_function (part_in text.now part) }
-{
-    name_begins(text, part.name, b'@')
-}
-
 /// Whether a part's name has a prefix.
 fn has_prefix(text: &[u8], part: Part) -> bool
     ensures { result ≡ has_prefix (part_in text.now part) }
@@ -157,41 +150,27 @@ fn is_nameless(text: &[u8], part: Part) -> bool
 
 /// Whether a part is the name of a function.
 fn any_function(text: &[u8], parts: &[Part]) -> bool
-    ensures { result ≡ list_any is_function (parts_in text.now parts.now) }
+    ensures { result ≡ list_any (λ part. is_function (part_in text.now part)) parts.now }
 {
-    for part in parts {
-        if is_function(text, *part) {
-            return true;
-        }
-    }
-    false
+    parts.iter().any(|part| name_begins(text, part.name, b'@'))
 }
 
 /// Whether a part's name has a prefix.
 fn any_prefix(text: &[u8], parts: &[Part]) -> bool
-    ensures { result ≡ list_any has_prefix (parts_in text.now parts.now) }
+    ensures { result ≡ list_any (λ part. has_prefix (part_in text.now part)) parts.now }
 {
-    for part in parts {
-        if has_prefix(text, *part) {
-            return true;
-        }
-    }
-    false
+    parts.iter().any(|part| has_prefix(text, *part))
 }
 
 /// Whether a part has no name.
 fn any_nameless(text: &[u8], parts: &[Part]) -> bool
-    ensures { result ≡ list_any is_nameless (parts_in text.now parts.now) }
+    ensures { result ≡ list_any (λ part. is_nameless (part_in text.now part)) parts.now }
 {
-    for part in parts {
-        if is_nameless(text, *part) {
-            return true;
-        }
-    }
-    false
+    parts.iter().any(|part| is_nameless(text, *part))
 }
 
 /// What is wrong with the parts of a key.
+#[tactic(auto, using(crate::proofs::PartLists::list_any_map))]
 pub fn key_defect(text: &[u8], parts: &[Part]) -> Option<ConfWhy>
     ensures { result ≡ key_defect (parts_in text.now parts.now) }
 {

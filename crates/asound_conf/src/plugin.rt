@@ -1,6 +1,6 @@
 //! The dmix, dsnoop and dshare devices that a configuration defines.
 ghost use Rattle.std.specs.Prelude.{◌≡◌, ◌<◌, ◌≤◌, ◌+◌, ◌^◌, option_map, IfOk};
-ghost use Rattle.asound_conf.specs.Device.{IsCard, as_group, card_of_slave, definition_of, device_by, device_in, field, field_pair, field_in, format_of, frames_in_time, is_fit, is_period, is_ring, is_stream, kind_named, device_kind, number_of_node, slave_card, slave_numbers, or_default, slave_period, slave_ring, device_slave, device_bindings};
+ghost use Rattle.asound_conf.specs.Device.{IsCard, as_group, card_of_slave, definition_of, device_by, field, format_of, frames_in_time, device_kind, slave_numbers, or_default, slave_period, slave_ring, device_slave};
 ghost use Rattle.asound_conf.specs.Answer.{answer_view};
 ghost use Rattle.asound_conf.specs.Tree.{get};
 ghost use Rattle.asound_conf.specs.Node.{entries_in, tree_of};
@@ -97,28 +97,22 @@ fn slave_of<'a>(root: Group<'a>, node: Option<Node<'a>>) -> Result<Group<'a>, Co
     }
 }
 
-/// The kind of device that a type names.
-fn kind_named(name: &[u8]) -> Result<DeviceKind, ConfWhy>
-    ensures { result ≡ kind_named name.now }
-{
-    let kind = if name == b"dmix".as_slice() {
-        DeviceKind::Dmix
-    } else if name == b"dsnoop".as_slice() {
-        DeviceKind::Dsnoop
-    } else if name == b"dshare".as_slice() {
-        DeviceKind::Dshare
-    } else {
-        return Err(ConfWhy::PluginType);
-    };
-    Ok(kind)
-}
-
 /// The kind of device that a definition's type is.
 fn kind_of(node: Option<Node<'_>>) -> Result<DeviceKind, ConfWhy>
     ensures { result ≡ device_kind (option_map tree_of node.entry) }
 {
     match node {
-        Some(Node::Text(name)) => kind_named(name),
+        Some(Node::Text(name)) => {
+            if name == b"dmix".as_slice() {
+                Ok(DeviceKind::Dmix)
+            } else if name == b"dsnoop".as_slice() {
+                Ok(DeviceKind::Dsnoop)
+            } else if name == b"dshare".as_slice() {
+                Ok(DeviceKind::Dshare)
+            } else {
+                Err(ConfWhy::PluginType)
+            }
+        }
         Some(Node::Group(_)) => Err(ConfWhy::PluginType),
         None => Err(ConfWhy::PluginType),
     }
@@ -151,21 +145,17 @@ fn field(name: &[u8], slave: Group<'_>) -> Result<u32, ConfWhy>
     }
 }
 
-/// Two number fields of a slave, each 0 where it isn't given.
-#[tactic(auto, unfolding(crate::specs::Device::field_pair))]
-fn field_pair(first: &[u8], second: &[u8], slave: Group<'_>) -> Result<(u32, u32), ConfWhy>
-    ensures { result ≡ field_pair first.now second.now (entries_in slave.entry) }
-{
-    Ok((field(first, slave)?, field(second, slave)?))
-}
-
 /// The number fields of a slave.
+#[tactic(auto, unfolding(crate::specs::Device::slave_numbers))]
 fn numbers_of(slave: Group<'_>) -> Result<Numbers, ConfWhy>
     ensures { result ≡ slave_numbers (entries_in slave.entry) }
 {
-    let (channels, rate) = field_pair(b"channels", b"rate", slave)?;
-    let (period_size, period_time) = field_pair(b"period_size", b"period_time", slave)?;
-    let (buffer_size, periods) = field_pair(b"buffer_size", b"periods", slave)?;
+    let channels = field(b"channels", slave)?;
+    let rate = field(b"rate", slave)?;
+    let period_size = field(b"period_size", slave)?;
+    let period_time = field(b"period_time", slave)?;
+    let buffer_size = field(b"buffer_size", slave)?;
+    let periods = field(b"periods", slave)?;
     let buffer_time = field(b"buffer_time", slave)?;
     Ok(Numbers {
         channels,
@@ -224,35 +214,6 @@ fn ring_of(numbers: &Numbers, rate: u64, period: u64) -> u64
     or_default(u64::from(numbers.buffer_size), computed)
 }
 
-/// Whether channels and rate are in their ranges.
-fn is_stream(channels: u64, rate: u64) -> bool
-    ensures { result ≡ is_stream channels rate }
-{
-    1 <= channels && channels <= 8 && 4000 <= rate && rate <= 192_000
-}
-
-/// Whether a period is in its range.
-fn is_period(numbers: &Numbers, period: u64) -> bool
-    ensures { result ≡ is_period numbers.now period }
-{
-    16 <= period && (0 < numbers.period_size || period <= 16_384)
-}
-
-/// Whether a ring is in its range.
-fn is_ring(ring: u64) -> bool
-    ensures { result ≡ is_ring ring }
-{
-    64 <= ring && ring <= 16_384
-}
-
-/// Whether a period divides its ring at least twice.
-fn is_fit(period: u64, ring: u64) -> bool
-    requires { 0 < period }
-    ensures { result ≡ is_fit period ring }
-{
-    period <= ring / 2 && ring % period == 0
-}
-
 /// The card of a slave's numbers.
 fn card_of(numbers: &Numbers) -> Result<Card, ConfWhy>
     ensures value { result ≡ card_of_slave numbers.now }
@@ -260,18 +221,18 @@ fn card_of(numbers: &Numbers) -> Result<Card, ConfWhy>
 {
     let channels = or_default(u64::from(numbers.channels), 2);
     let rate = or_default(u64::from(numbers.rate), 48_000);
-    if !is_stream(channels, rate) {
+    if !(1 <= channels && channels <= 8 && 4000 <= rate && rate <= 192_000) {
         return Err(ConfWhy::Range);
     }
     let period = period_of(numbers, rate);
-    if !is_period(numbers, period) {
+    if !(16 <= period && (0 < numbers.period_size || period <= 16_384)) {
         return Err(ConfWhy::Range);
     }
     let ring = ring_of(numbers, rate, period);
-    if !is_ring(ring) {
+    if !(64 <= ring && ring <= 16_384) {
         return Err(ConfWhy::Range);
     }
-    if !is_fit(period, ring) {
+    if !(period <= ring / 2 && ring % period == 0) {
         return Err(ConfWhy::Fit);
     }
     Ok(Card {
@@ -282,26 +243,18 @@ fn card_of(numbers: &Numbers) -> Result<Card, ConfWhy>
     })
 }
 
-/// The card of a slave.
-#[tactic(auto, unfolding(crate::specs::Device::slave_card))]
-fn card_in(slave: Group<'_>) -> Result<Card, ConfWhy>
-    ensures value { result ≡ slave_card (entries_in slave.entry) }
-    ensures ranges { IfOk result (λ c. IsCard c.channels c.rate c.period c.ring) }
-{
-    check_format(get(slave, b"format"))?;
-    let numbers = numbers_of(slave)?;
-    card_of(&numbers)
-}
-
-/// The device of this definition.
-#[tactic(auto, unfolding(crate::specs::Device::device_in))]
-fn device_in<'a>(root: Group<'a>, definition: Group<'a>) -> Result<Device, ConfWhy>
-    ensures value { result ≡ device_in (entries_in root.entry) (entries_in definition.entry) }
+/// The device of this name, or why there is none.
+#[tactic(auto, unfolding(crate::specs::Device::device_by))]
+pub fn device_by(root: Group<'_>, name: &[u8]) -> Result<Device, ConfWhy>
+    ensures value { result ≡ device_by (entries_in root.entry) name.now }
     ensures card { IfOk result (λ d. IsCard d.channels d.rate d.period d.ring) }
 {
+    let definition = defined(b"pcm", name, root)?;
     let slave = slave_of(root, get(definition, b"slave"))?;
     let kind = kind_of(get(definition, b"type"))?;
-    let card = card_in(slave)?;
+    check_format(get(slave, b"format"))?;
+    let numbers = numbers_of(slave)?;
+    let card = card_of(&numbers)?;
     let bindings = read_bindings(get(definition, b"bindings"), card.channels)?;
     Ok(Device {
         kind,
@@ -311,13 +264,4 @@ fn device_in<'a>(root: Group<'a>, definition: Group<'a>) -> Result<Device, ConfW
         ring: card.ring,
         bindings,
     })
-}
-
-/// The device of this name, or why there is none.
-pub fn device_by(root: Group<'_>, name: &[u8]) -> Result<Device, ConfWhy>
-    ensures value { result ≡ device_by (entries_in root.entry) name.now }
-    ensures card { IfOk result (λ d. IsCard d.channels d.rate d.period d.ring) }
-{
-    let definition = defined(b"pcm", name, root)?;
-    device_in(root, definition)
 }

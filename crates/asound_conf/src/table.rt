@@ -1,9 +1,9 @@
 //! The table of the nodes of a configuration: the cells, and the buckets in which they are sought.
-ghost use Rattle.std.specs.Prelude.{◌≡◌, ◌<◌, ◌≤◌, ◌+◌, ◌-◌, ◌∷◌, [], bit_and, count_by, drop, fold, is_none, length, map, option_map, bytes_eq, set, false, IfOk, OnOk, IfErr, OnErr, IfSome, IfNone, vec_len};
+ghost use Rattle.std.specs.Prelude.{◌≡◌, ◌<◌, ◌≤◌, ◌+◌, ◌∷◌, [], count_by, drop, fold, is_none, length, map, option_map, bytes_eq, set, false, IfOk, OnOk, IfErr, OnErr, IfSome, IfNone, vec_len};
 ghost use Rattle.std.specs.Fmt.{decimal};
 ghost use Rattle.asound_conf.specs.Device.{count_of_names};
 ghost use Rattle.asound_conf.specs.Rows.{group_of, is_in, no_row, row_at, with_row, IsAbsent, IsNode};
-ghost use Rattle.asound_conf.specs.Table.{IsTable, bucket_of, cell_at, content_of, contents_of, fits, hash_by, is_live, text_bytes, lacks, hash_with_byte, name_in, new_row, no_number, content_with, parent_of, number_after, removed_row, cell_row, span_in, value_in};
+ghost use Rattle.asound_conf.specs.Table.{IsTable, bucket_of, cell_at, content_of, contents_of, fits, hash_by, hash_of, is_live, text_bytes, lacks, hash_with_byte, name_in, new_row, no_number, content_with, parent_of, removed_row, cell_row, span_in, value_in};
 
 use crate::cell::{Cell, ConfText, Content, Name, Span};
 use crate::error::ConfWhy;
@@ -59,43 +59,31 @@ fn hash_by(group: u32, number: Option<u64>, name: &[u8]) -> u32
     }
 }
 
-/// The bucket of a hash, where there are so many: they are a power of two.
-fn bucket_by(buckets: usize, hash: u32) -> usize
-    requires { 0 < buckets }
-    ensures value { result ≡ bit_and hash (buckets - 1) }
-    ensures within { result < buckets }
+/// A hash of a group's number and a name that is the decimal text of a number.
+fn hash_of_number(group: u32, number: u32) -> u32
+    ensures { result ≡ hash_of group (decimal number) }
 {
-    hash as usize & (buckets - 1)
+    hash_by(group, Some(u64::from(number)), &[])
 }
 
-/// The bucket of a group's number and a name.
-fn bucket_of_bytes(buckets: usize, group: u32, name: &[u8]) -> usize
-    requires { 0 < buckets }
-    ensures value { result ≡ bucket_of buckets group name.now }
-    ensures within { result < buckets }
+/// A hash of a group's number and a name.
+fn hash_of(group: u32, key: ConfText<'_>) -> u32
+    ensures { result ≡ hash_of group (text_bytes key.entry) }
 {
-    bucket_by(buckets, hash_by(group, decimal_of(u64::MAX, name), name))
+    match key {
+        ConfText::Bytes(name) => hash_by(group, decimal_of(u64::MAX, name), name),
+        ConfText::Number(number) => hash_of_number(group, number),
+    }
 }
 
-/// The bucket of a group's number and a name that is the decimal text of a number.
-fn bucket_of_number(buckets: usize, group: u32, number: u32) -> usize
-    requires { 0 < buckets }
-    ensures value { result ≡ bucket_of buckets group (decimal number) }
-    ensures within { result < buckets }
-{
-    bucket_by(buckets, hash_by(group, Some(u64::from(number)), &[]))
-}
-
-/// The bucket of a group's number and a name, where there are so many.
+/// The bucket of a group's number and a name, where there are so many: they are a power of two.
+#[tactic(auto, unfolding(crate::specs::Table::bucket_of))]
 fn bucket_of(buckets: usize, group: u32, key: ConfText<'_>) -> usize
     requires { 0 < buckets }
     ensures value { result ≡ bucket_of buckets group (text_bytes key.entry) }
     ensures within { result < buckets }
 {
-    match key {
-        ConfText::Bytes(name) => bucket_of_bytes(buckets, group, name),
-        ConfText::Number(number) => bucket_of_number(buckets, group, number),
-    }
+    hash_of(group, key) as usize & (buckets - 1)
 }
 
 /// Whether two numbers have the same decimal text.
@@ -204,38 +192,21 @@ fn count_in(cells: &[Cell], group: u32) -> u32
     count_among(&cells[first..], group) as u32
 }
 
-/// How many cells there are.
-fn count_cells(cells: &[Cell]) -> u32
-    requires { length cells.now ≤ no_number }
-    ensures { result ≡ length cells.now }
-{
-    cells.len() as u32
-}
-
-/// The number that is past a group's names, where it gets this one.
-fn raised(numbers: u32, name: Name) -> u32
-    ensures { result ≡ number_after numbers name }
-{
-    match name {
-        Name::Bytes(_) => NO_NUMBER,
-        Name::Number(number) => {
-            if number < NO_NUMBER {
-                numbers.max(number + 1)
-            } else {
-                NO_NUMBER
-            }
-        }
-    }
-}
-
 /// What a group's cell has, where the group gets this name.
 fn noted(content: Content, name: Name) -> Content
     ensures { result ≡ content_with content name }
 {
-    match content {
-        Content::Text(span) => Content::Text(span),
-        Content::Group(numbers) => Content::Group(raised(numbers, name)),
-        Content::Removed => Content::Removed,
+    match (content, name) {
+        (Content::Text(span), _) => Content::Text(span),
+        (Content::Group(_), Name::Bytes(_)) => Content::Group(NO_NUMBER),
+        (Content::Group(numbers), Name::Number(number)) => {
+            if number < NO_NUMBER {
+                Content::Group(numbers.max(number + 1))
+            } else {
+                Content::Group(NO_NUMBER)
+            }
+        }
+        (Content::Removed, _) => Content::Removed,
     }
 }
 
@@ -438,7 +409,7 @@ impl Table {
     pub fn len(&self) -> u32
         ensures { result ≡ length self.now.rows }
     {
-        count_cells(self.cells.as_slice())
+        self.cells.len() as u32
     }
 
     /// Whether a node is one of a group.

@@ -2,7 +2,7 @@
 ghost use Rattle.std.specs.Prelude.{◌≡◌, ℕ, ◌+◌, ◌<◌, ◌≤◌, ◌^◌, ◌==◌, ◌∷◌, [], length, option_map, IfNone, IfSome, drop, IsTrue, position, slice_index, true, false, ◌||◌};
 ghost use Rattle.std.specs.List.{list_any};
 ghost use Rattle.asound_conf.specs.Start.{IsBefore, IsSuffix};
-ghost use Rattle.asound_conf.specs.Token.{end_at, ends_word, is_blank, is_control, is_quote, is_skipped, is_word_byte, line_after, mark_of, quoted_end, quoted_size, quoted_token, token_at, token_end, token_of, tokens};
+ghost use Rattle.asound_conf.specs.Token.{end_at, ends_word, is_control, is_quote, is_skipped, is_word_byte, line_after, mark_of, quoted_end, quoted_size, quoted_token, token_at, token_end, token_of, tokens};
 
 use crate::error::ConfWhy;
 
@@ -36,13 +36,6 @@ pub struct Lexeme<'a> {
     pub line: u32,
     pub token: Token<'a>,
     pub rest: &'a [u8],
-}
-
-/// A space, a tab, a line feed or a carriage return.
-fn is_blank(b: u8) -> bool
-    ensures { result ≡ is_blank b }
-{
-    b == b' ' || b == b'\t' || b == b'\n' || b == b'\r'
 }
 
 /// A double or a single quote.
@@ -105,17 +98,6 @@ fn word_end(text: &[u8]) -> usize
 {
     match first_after_word(&text[1..]) {
         Some(end) => end + 1,
-        None => text.len(),
-    }
-}
-
-/// Where the first line of a text ends.
-fn line_end(text: &[u8]) -> usize
-    ensures value { result ≡ end_at (λ b. b == 10) text.now }
-    ensures within { result ≤ length text.now }
-{
-    match first_feed(text) {
-        Some(end) => end,
         None => text.len(),
     }
 }
@@ -214,10 +196,13 @@ fn skipped_end(text: &[u8]) -> usize
     ensures moves { 0 < result }
     ensures within { result ≤ length text.now }
 {
-    if text[0] == b'#' {
-        return line_end(text);
+    if text[0] != b'#' {
+        return 1;
     }
-    1
+    match first_feed(text) {
+        Some(end) => end,
+        None => text.len(),
+    }
 }
 
 /// The text that follows the blank or the comment at its front.
@@ -253,11 +238,11 @@ fn first_lexeme(line: u32, text: &[u8]) -> Lexeme<'_>
     }
 }
 
-/// Whether a byte is a blank or begins a comment.
+/// Whether a byte is a space, a tab, a line feed or a carriage return, or begins a comment.
 fn is_skipped(b: u8) -> bool
     ensures { result ≡ is_skipped b }
 {
-    is_blank(b) || b == b'#'
+    b == b' ' || b == b'\t' || b == b'\n' || b == b'\r' || b == b'#'
 }
 
 /// The number of the line of what follows a byte of the line with this number.

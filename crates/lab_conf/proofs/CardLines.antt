@@ -1,5 +1,5 @@
 -- A device's card line is a whole script.
-use Rattle.std.proofs.Common.{◌≡◌, ◌≤◌, ℕ, true, false, List, [], ◌∷◌, ◌++◌, length, cond, nat_lt, refl, ap, ◌∙◌, arith, append_assoc, length-append}
+use Rattle.std.proofs.Common.{◌≡◌, ◌≤◌, ℕ, false, List, [], ◌∷◌, ◌++◌, length, cond, nat_lt, refl, ap, ◌∙◌, arith, append_assoc, length-append}
 use Rattle.std.specs.Prelude.{codes, Err}
 use Rattle.std.specs.Fmt.{decimal}
 use Rattle.std.proofs.lemmas.Bool.Decides.{nat_tests}
@@ -12,12 +12,12 @@ use Rattle.lab_script.specs.Draft.{card_alone}
 use Rattle.lab_script.specs.Reading.{after, on_line, refusal_at, script_at, script_of_lines}
 use Rattle.text_words.specs.Lexing.{line_text, word_lines}
 use Rattle.text_words.proofs.Decimals.{is_plain_word-decimal, number_of_word-decimal}
-use Rattle.text_words.proofs.PlainLines.{is_plain_line, is_plain_word, word_lines-line_text}
+use Rattle.text_words.proofs.PlainLines.{word_lines-line_text}
 use Rattle.lab_conf.specs.Described.{IsScriptText, card_script}
 use Rattle.lab_conf.proofs.CardWords.{AreNumerals, card_line-words, words_with}
 
 -- the words of a device's card line
-card_words : Device → List (List ℕ)
+abbrev card_words : Device → List (List ℕ)
 card_words d = words_with (decimal d.channels) (decimal d.rate) (decimal d.period) (decimal d.ring)
 
 -- four words, each with its number, and an end
@@ -27,24 +27,17 @@ regrouped a channels b rate c period e ring end = simp append_assoc
 
 -- a device's card line is the line of its words
 card_line-card_words : (d : Device) → card_line d ≡ line_text (card_words d)
-unfolding card_words
 card_line-card_words d = regrouped (codes "card channels ") (decimal d.channels) (codes " rate ") (decimal d.rate) (codes " period ") (decimal d.period) (codes " ring ") (decimal d.ring) (10 ∷ [])
-
--- these words are of visible bytes
-words_with-plain : (channels rate period ring : List ℕ) → is_plain_word channels ≡ true → is_plain_word rate ≡ true → is_plain_word period ≡ true → is_plain_word ring ≡ true
-    → is_plain_line (words_with channels rate period ring) ≡ true
-words_with-plain channels rate period ring a b c e = rw (a, b, c, e) refl
 
 -- a device's card line has its words on the first line
 word_lines-card_line : (d : Device) → IsCard d.channels d.rate d.period d.ring → word_lines (card_line d) ≡ (1, card_words d) ∷ []
-unfolding card_words
 word_lines-card_line d card =
     let channels = is_plain_word-decimal d.channels (omega (arith, card.channels_high)) in
     let rate = is_plain_word-decimal d.rate (omega (arith, card.rate_high)) in
     let period = is_plain_word-decimal d.period (omega (arith, card.period_twice, card.ring_high)) in
     let ring = is_plain_word-decimal d.ring (omega (arith, card.ring_high)) in
     ap word_lines (card_line-card_words d)
-    ∙ word_lines-line_text (card_words d) (words_with-plain (decimal d.channels) (decimal d.rate) (decimal d.period) (decimal d.ring) channels rate period ring)
+    ∙ word_lines-line_text (card_words d) (rw (channels, rate, period, ring) refl)
 
 -- a number of a card has at most six digits
 length-decimal-few : (n : ℕ) → n ≤ 192000 → length (decimal n) ≤ 6
@@ -61,7 +54,6 @@ length-card_line d card =
 
 -- a device's card line is a whole script
 pub IsScriptText-card : (d : Device) → IsCard d.channels d.rate d.period d.ring → IsScriptText (card_line d) (card_script d)
-unfolding card_words
 IsScriptText-card d card =
     let text = card_line d in
     let size = length-card_line d card in

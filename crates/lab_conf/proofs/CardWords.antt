@@ -1,5 +1,5 @@
 -- The words of a card's line with its channels, rate, period and ring are read as this card.
-use Rattle.std.proofs.Common.{◌≡◌, ◌≤◌, ◌%◌, ◌*◌, ◌/◌, ℕ, true, List, [], ◌∷◌, codes, Some, None, Ok, nat_le, refl, arith}
+use Rattle.std.proofs.Common.{◌≡◌, ◌≤◌, ◌%◌, ◌*◌, ◌/◌, ℕ, true, List, [], ◌∷◌, codes, Some, None, Ok, refl, arith}
 use Rattle.std.proofs.lemmas.Bool.{le-leb}
 use Rattle.std.proofs.lemmas.Bool.Decides.{nat_tests}
 use Rattle.asound_conf.specs.Device.{IsCard}
@@ -21,43 +21,11 @@ pub record AreNumerals (channels rate period ring : List ℕ) (c r p n : ℕ) : 
   pub is_period : number_of_word period ≡ Some p
   pub is_ring : number_of_word ring ≡ Some n
 
--- the tests that a card's numbers pass
-record AreTested (c r p n : ℕ) : Type 0 where
-  channels_low : nat_le 1 c ≡ true
-  channels_high : nat_le c 8 ≡ true
-  channels_most : nat_le c 255 ≡ true
-  rate_low : nat_le 4000 r ≡ true
-  rate_high : nat_le r 192000 ≡ true
-  rate_most : nat_le r 4294967295 ≡ true
-  period_low : nat_le 16 p ≡ true
-  period_high : nat_le p 9999999999999999999 ≡ true
-  ring_low : nat_le 64 n ≡ true
-  ring_high : nat_le n 16384 ≡ true
-  ring_most : nat_le n 4294967295 ≡ true
-  divides : divides p n ≡ true
-
 -- a period that divides its ring at least twice
 divides-card : (p n : ℕ) → 16 ≤ p → p * 2 ≤ n → n % p ≡ 0 → divides p n ≡ true
 divides-card p n low twice whole =
     let half : p ≤ n / 2 = omega (arith, twice) in
     grind (arith, nat_tests, low, half, whole)
-
--- the numbers of a card pass these tests
-AreTested-card : (c r p n : ℕ) → IsCard c r p n → AreTested c r p n
-AreTested-card c r p n card = record {
-  channels_low = le-leb 1 c card.channels_low;
-  channels_high = le-leb c 8 card.channels_high;
-  channels_most = le-leb c 255 (omega (arith, card.channels_high));
-  rate_low = le-leb 4000 r card.rate_low;
-  rate_high = le-leb r 192000 card.rate_high;
-  rate_most = le-leb r 4294967295 (omega (arith, card.rate_high));
-  period_low = le-leb 16 p card.period_low;
-  period_high = le-leb p 9999999999999999999 (omega (arith, card.period_twice, card.ring_high));
-  ring_low = le-leb 64 n card.ring_low;
-  ring_high = le-leb n 16384 card.ring_high;
-  ring_most = le-leb n 4294967295 (omega (arith, card.ring_high));
-  divides = divides-card p n card.period_low card.period_twice card.period_divides;
-}
 
 -- the card of such words, on the first line
 pub card_line-words : (channels rate period ring : List ℕ) (c r p n : ℕ) → AreNumerals channels rate period ring c r p n → IsCard c r p n
@@ -73,6 +41,21 @@ pub card_line-words : (channels rate period ring : List ℕ) (c r p n : ℕ) →
       share = share.Dmix;
     })
 unfolding card_of key_value
-card_line-words channels rate period ring c r p n are card =
-    let t = AreTested-card c r p n card in
-    rw (are.is_channels, are.is_rate, are.is_period, are.is_ring, t.channels_low, t.channels_high, t.channels_most, t.rate_low, t.rate_high, t.rate_most, t.period_low, t.period_high, t.ring_low, t.ring_high, t.ring_most, t.divides) refl
+card_line-words channels rate period ring c r p n are card = rw (
+  are.is_channels,
+  are.is_rate,
+  are.is_period,
+  are.is_ring,
+  le-leb 1 c card.channels_low,
+  le-leb c 8 card.channels_high,
+  le-leb c 255 (omega (arith, card.channels_high)),
+  le-leb 4000 r card.rate_low,
+  le-leb r 192000 card.rate_high,
+  le-leb r 4294967295 (omega (arith, card.rate_high)),
+  le-leb 16 p card.period_low,
+  le-leb p 9999999999999999999 (omega (arith, card.period_twice, card.ring_high)),
+  le-leb 64 n card.ring_low,
+  le-leb n 16384 card.ring_high,
+  le-leb n 4294967295 (omega (arith, card.ring_high)),
+  divides-card p n card.period_low card.period_twice card.period_divides,
+) refl

@@ -26,46 +26,21 @@ IsConfStop-either : (cause : ConfWhy) (error : ConfError) (stop : Stop) → IsCo
 IsConfStop-either why.Memory error stop is = inl is
 IsConfStop-either cause error stop is = inr is
 
--- an error is the one that is given, unless memory ran out
-RefusesText-either : (cause : ConfWhy) (error : ConfError) (given : Result Entries ConfError) → RefusesText cause error given
-    → (cause ≡ why.Memory) ⊎ (given ≡ Err error)
-RefusesText-either why.Memory error given refuses = inl refl
-RefusesText-either cause error given refuses = inr refuses
-
 -- it is at the cause that is given, if it isn't for memory
-IsCauseOf-either : {X : Type 0} (error : ConfError) (stop : Stop) (given : Result X ConfError)
-    → (stop ≡ stops.Memory) ⊎ (stop ≡ stops.Conf error) → given ≡ Err error → IsCauseOf stop (as_conf given)
-IsCauseOf-either error stop given (inl is) refuses = subst (λ (s : Stop). IsCauseOf s (as_conf given)) (sym is) tt
-IsCauseOf-either error stop given (inr is) refuses = subst (λ (s : Stop). IsCauseOf s (as_conf given)) (sym is) (ap as_conf refuses)
-
-IsCauseOf-text : (error : ConfError) (stop : Stop) (given : Result Entries ConfError) → IsConfStop error.why error stop
-    → (error.why ≡ why.Memory) ⊎ (given ≡ Err error) → IsCauseOf stop (as_conf given)
-IsCauseOf-text error stop given is (inl memory) =
-    subst (λ (s : Stop). IsCauseOf s (as_conf given)) (sym (subst (λ (cause : ConfWhy). IsConfStop cause error stop) memory is)) tt
-IsCauseOf-text error stop given is (inr refuses) =
-    IsCauseOf-either error stop given (IsConfStop-either error.why error stop is) refuses
-
-misses_none : {Y : Type 0} (error : ConfError) (stop : Stop) (given : Result Y Cause)
-    → (stop ≡ stops.Memory) ⊎ (stop ≡ stops.Conf error) → Misses {X = Unit {0}} (Err stop) given
-misses_none {Y} error stop given (inl is) = subst (λ (s : Stop). Misses {X = Unit {0}} (Err s) given) (sym is) tt
-misses_none {Y} error stop given (inr is) = subst (λ (s : Stop). Misses {X = Unit {0}} (Err s) given) (sym is) tt
-
-faults_none : (error : ConfError) (stop : Stop) (before now : ℕ) → (stop ≡ stops.Memory) ⊎ (stop ≡ stops.Conf error)
-    → now ≡ before → FetchFaults {X = Unit {0}} (Err stop) before now
-faults_none error stop before now (inl is) same =
-    subst (λ (s : Stop). FetchFaults {X = Unit {0}} (Err s) before now) (sym is) same
-faults_none error stop before now (inr is) same =
-    subst (λ (s : Stop). FetchFaults {X = Unit {0}} (Err s) before now) (sym is) same
+IsCauseOf-text : (cause : ConfWhy) (error : ConfError) (stop : Stop) (given : Result Entries ConfError) → RefusesText cause error given → IsConfStop cause error stop
+    → IsCauseOf stop (as_conf given)
+IsCauseOf-text why.Memory error stop given refuses is = rw is tt
+IsCauseOf-text cause error stop given refuses is = rw is (ap as_conf refuses)
 
 -- a stop at a configuration that is refused is at no missing file
 pub Misses-conf : {Y : Type 0} (error : ConfError) (stop : Stop) (given : Result Y Cause) → IsConfStop error.why error stop
     → Misses {X = Unit {0}} (Err stop) given
-Misses-conf {Y} error stop given is = misses_none error stop given (IsConfStop-either error.why error stop is)
+Misses-conf error stop given is = elim (IsConfStop-either error.why error stop is) [ inl e ↦ rw e tt | inr e ↦ rw e tt ]
 
 -- a stop at a configuration that is refused counts no fault
 pub FetchFaults-conf : (error : ConfError) (stop : Stop) (before now : ℕ) → IsConfStop error.why error stop
     → now ≡ before → FetchFaults {X = Unit {0}} (Err stop) before now
-FetchFaults-conf error stop before now is same = faults_none error stop before now (IsConfStop-either error.why error stop is) same
+FetchFaults-conf error stop before now is same = elim (IsConfStop-either error.why error stop is) [ inl e ↦ rw e same | inr e ↦ rw e same ]
 
 -- ---- the device
 
@@ -103,8 +78,7 @@ pub device_in-refused : (files : Option Files) (file name text spelled : List �
     → ForSome files (λ m. IsCauseOf stop (device_in m file name))
 device_in-refused files file name text spelled error stop read same refuses is m told =
     subst (λ (r : Result Device Cause). IsCauseOf stop r) (sym (device_in-read m file name text spelled (conf_of spelled) (read m told) same refl))
-    (refused_at name error stop (conf_of spelled)
-    (IsCauseOf-text error stop (conf_of spelled) is (RefusesText-either error.why error (conf_of spelled) refuses)))
+    (refused_at name error stop (conf_of spelled) (IsCauseOf-text error.why error stop (conf_of spelled) refuses is))
 
 -- what the device of a configuration that is read is, or why there is none
 pub device_in-read_of : (files : Option Files) (file name text spelled : List ℕ) (root : Entries) (found : Result Device ConfError)
@@ -121,4 +95,4 @@ pub device_in-lacks : (files : Option Files) (file name text spelled : List ℕ)
 device_in-lacks files file name text spelled root error stop read same is lacks stopped m told =
     subst (λ (r : Result Device Cause). IsCauseOf stop r)
     (sym (device_in-read_of files file name text spelled root (Err error) read same is lacks m told))
-    (IsCauseOf-either error stop (Err error) (IsConfStop-either error.why error stop stopped) refl)
+    (elim (IsConfStop-either error.why error stop stopped) [ inl e ↦ rw e tt | inr e ↦ rw e refl ])

@@ -46,10 +46,9 @@ Answers-next period old between new asks i d before after so_far within more =
     (Answers-more period old between new (take i asks) (get_or asks i d) before after so_far more)
 
 -- a narrowing is answered in one way
-IsNarrowing-unique : (leaves : Option ParamBox → Type 0) → ((o p : Option ParamBox) → leaves o → leaves p → o ≡ p)
-    → (param : Param) (old : ParamBox) (line other : List ℕ) (new another : ParamBox)
+IsNarrowing-unique : {leaves : Option ParamBox → Type 0} {param : Param} {old new another : ParamBox} {line other : List ℕ} → ((o p : Option ParamBox) → leaves o → leaves p → o ≡ p)
     → IsNarrowing leaves param old line new → IsNarrowing leaves param old other another → (line ≡ other) × (new ≡ another)
-IsNarrowing-unique leaves unique param old line other new another one two =
+IsNarrowing-unique {param = param} {old = old} unique one two =
     let same = unique one.left two.left one.is_left two.is_left in (
       one.is_line ∙ ap (left_line param) same ∙ sym two.is_line,
       one.stays ∙ ap (λ left. unwrap_or left old) same ∙ sym two.stays,
@@ -65,18 +64,12 @@ IsNearKind-unique b (kinds.Number q) n o p one other = IsNear-unique b q n o p o
 -- a line is answered in one way
 IsAnswer-unique : (period : ℕ) (old : ParamBox) (ask : Ask) (line other : List ℕ) (new another : ParamBox)
     → IsAnswer period old ask line new → IsAnswer period old ask other another → (line ≡ other) × (new ≡ another)
-IsAnswer-unique period old (ask_kinds.Set param value) line other new another one two =
-    IsNarrowing-unique _ (Leaves-unique (with_value old param value)) param old line other new another one two
-IsAnswer-unique period old (ask_kinds.Min param value) line other new another one two =
-    IsNarrowing-unique _ (Leaves-unique (with_min old param value)) param old line other new another one two
-IsAnswer-unique period old (ask_kinds.Max param value) line other new another one two =
-    IsNarrowing-unique _ (Leaves-unique (with_max old param value)) param old line other new another one two
-IsAnswer-unique period old (ask_kinds.Near param value) line other new another one two =
-    IsNarrowing-unique _ (IsNearKind-unique old (kind_of param) value) param old line other new another one two
-IsAnswer-unique period old (ask_kinds.Integer param) line other new another one two =
-    IsNarrowing-unique _ (Leaves-unique (with_integer old param)) param old line other new another one two
-IsAnswer-unique period old (ask_kinds.Show param) line other new another one two =
-    (one.is_line ∙ sym two.is_line, one.stays ∙ sym two.stays)
+IsAnswer-unique period old (ask_kinds.Set param value) line other new another one two = IsNarrowing-unique (Leaves-unique (with_value old param value)) one two
+IsAnswer-unique period old (ask_kinds.Min param value) line other new another one two = IsNarrowing-unique (Leaves-unique (with_min old param value)) one two
+IsAnswer-unique period old (ask_kinds.Max param value) line other new another one two = IsNarrowing-unique (Leaves-unique (with_max old param value)) one two
+IsAnswer-unique period old (ask_kinds.Near param value) line other new another one two = IsNarrowing-unique (IsNearKind-unique old (kind_of param) value) one two
+IsAnswer-unique period old (ask_kinds.Integer param) line other new another one two = IsNarrowing-unique (Leaves-unique (with_integer old param)) one two
+IsAnswer-unique period old (ask_kinds.Show param) line other new another one two = (one.is_line ∙ sym two.is_line, one.stays ∙ sym two.stays)
 IsAnswer-unique period old ask_kinds.Choose line other new another one two = (
   one.is_line ∙ ap chosen_line (IsChoice-unique old period one.choice two.choice one.is_choice two.is_choice) ∙ sym two.is_line,
   one.stays ∙ sym two.stays,

@@ -3,6 +3,7 @@ use Rattle.lab_refine.specs.Prelude.{All, ap, append_assoc, Err, List, refl, sub
 use Rattle.lab_refine.specs.Prelude.{IfOk, None, Ok, Result, Some, first_and_rest, ScriptError, ScriptWhy, Ask, Request, ask_of, IsAsk, slave_of, asked_in}
 use Rattle.lab_refine.specs.Prelude.{asks_of, on_line, Reads, Refuses, ◌>>=◌}
 use Rattle.std.specs.Result.{IsErrAnd}
+use Rattle.lab_script.proofs.Pairs.{first-is}
 use Rattle.lab_refine.specs.declared.request.SlaveLine.{SlaveLine}
 use Rattle.lab_script.specs.declared.error.ScriptWhy.TheVariants as why
 
@@ -10,14 +11,6 @@ use Rattle.lab_script.specs.declared.error.ScriptWhy.TheVariants as why
 abbrev pub joined : List Ask → Result (List Ask) ScriptError → Result (List Ask) ScriptError
 joined front (Ok rest) = Ok (front ++ rest)
 joined front (Err e) = Err e
-
--- a first line, and those after it
-lines-are : (lines more : List (ℕ × List (List ℕ))) (line : ℕ × List (List ℕ))
-    → Some (line, more) ≡ first_and_rest lines → lines ≡ line ∷ more
-lines-are [] more line e = absurd (let n = e in cc)
-lines-are (l ∷ ls) more line e =
-    let pair : (line, more) ≡ (l, ls) = cc in
-    sym (ap (λ (p : (ℕ × List (List ℕ)) × List (ℕ × List (List ℕ))). p.0 ∷ p.1) pair)
 
 -- no line is left
 pub asks_of-none : (front : List Ask) (lines : List (ℕ × List (List ℕ))) → None ≡ first_and_rest lines
@@ -41,10 +34,7 @@ pub asks_of-more : (front longer : List Ask) (lines more : List (ℕ × List (Li
     → joined longer (asks_of more) ≡ joined front (asks_of lines)
 unfolding asks_of
 asks_of-more front longer lines more number words ask first is longer_is =
-    ap (λ l. joined l (asks_of more)) longer_is
-    ∙ sym (ap (λ ls. joined front (asks_of ls)) (lines-are lines more (number, words) first)
-    ∙ ap (λ r. joined front (r >>= λ a. asks_of more >>= λ asks. Ok (a ∷ asks))) (sym is)
-    ∙ joined-cons front ask (asks_of more))
+    rw (longer_is, first-is (number, words) more lines first, ← is) (sym (joined-cons front ask (asks_of more)))
 
 -- the next line is refused
 pub asks_of-refused : (front : List Ask) (lines more : List (ℕ × List (List ℕ))) (number : ℕ) (words : List (List ℕ))
@@ -53,9 +43,7 @@ pub asks_of-refused : (front : List Ask) (lines more : List (ℕ × List (List �
     → Err e ≡ on_line number (ask_of words)
     → joined front (asks_of lines) ≡ Err e
 unfolding asks_of
-asks_of-refused front lines more number words e first is =
-    ap (λ ls. joined front (asks_of ls)) (lines-are lines more (number, words) first)
-    ∙ ap (λ r. joined front (r >>= λ a. asks_of more >>= λ asks. Ok (a ∷ asks))) (sym is)
+asks_of-refused front lines more number words e first is = rw (first-is (number, words) more lines first, ← is) refl
 
 -- what is given is refused so, for want of memory or else
 Refuses-of : {X : Type 0} (cause : ScriptWhy) (e : ScriptError) (given : Result X ScriptError) → given ≡ Err e
@@ -93,32 +81,12 @@ asked_in-none [] e = refl
 asked_in-none (line ∷ lines) e = absurd (let n = e in cc)
 
 -- a request with this slave, once what is asked is known
-abbrev request_with : SlaveLine → Result (List Ask) ScriptError → Result Request ScriptError
+abbrev pub request_with : SlaveLine → Result (List Ask) ScriptError → Result Request ScriptError
 request_with slave asked = asked >>= λ asks. Ok (record { slave = slave; asks = asks })
 
-asked_in-first : (lines more : List (ℕ × List (List ℕ))) (number : ℕ) (words : List (List ℕ)) (slave : Result SlaveLine ScriptError)
+-- what is asked, by the slave's line
+pub asked_in-first : (lines more : List (ℕ × List (List ℕ))) (number : ℕ) (words : List (List ℕ)) (slave : Result SlaveLine ScriptError)
     → Some ((number, words), more) ≡ first_and_rest lines → slave ≡ on_line number (slave_of words)
     → asked_in lines ≡ (slave >>= λ s. request_with s (asks_of more))
 unfolding asked_in
-asked_in-first lines more number words slave first is =
-    ap asked_in (lines-are lines more (number, words) first)
-    ∙ ap (λ (said : Result SlaveLine ScriptError). said >>= λ s. request_with s (asks_of more)) (sym is)
-
--- the slave's line is refused
-pub asked_in-refused : (lines more : List (ℕ × List (List ℕ))) (number : ℕ) (words : List (List ℕ)) (e : ScriptError)
-    → Some ((number, words), more) ≡ first_and_rest lines → Err e ≡ on_line number (slave_of words) → asked_in lines ≡ Err e
-asked_in-refused lines more number words e first is = asked_in-first lines more number words (Err e) first is
-
--- the lines after the slave's are refused
-pub asked_in-later : (lines more : List (ℕ × List (List ℕ))) (number : ℕ) (words : List (List ℕ)) (slave : SlaveLine) (e : ScriptError)
-    → Some ((number, words), more) ≡ first_and_rest lines → Ok slave ≡ on_line number (slave_of words)
-    → asks_of more ≡ Err e → asked_in lines ≡ Err e
-asked_in-later lines more number words slave e first is refused =
-    asked_in-first lines more number words (Ok slave) first is ∙ ap (request_with slave) refused
-
--- the slave's line and those after it say something
-pub asked_in-all : (lines more : List (ℕ × List (List ℕ))) (number : ℕ) (words : List (List ℕ)) (slave : SlaveLine) (read asks : List Ask)
-    → Some ((number, words), more) ≡ first_and_rest lines → Ok slave ≡ on_line number (slave_of words)
-    → asks_of more ≡ Ok read → asks ≡ read → asked_in lines ≡ Ok (record { slave = slave; asks = asks })
-asked_in-all lines more number words slave read asks first is all same =
-    asked_in-first lines more number words (Ok slave) first is ∙ ap (request_with slave) (all ∙ ap Ok (sym same))
+asked_in-first lines more number words slave first is = rw (first-is (number, words) more lines first, is) refl

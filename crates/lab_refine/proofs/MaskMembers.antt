@@ -59,24 +59,19 @@ Listing-none mask text = record { is_text = sym (append-nil text); begins = refl
 pub Listing-member : (mask : Mask) (before now after : List ℕ) (first : Bool) (n : ℕ)
     → Listing mask before now first n → true ≡ has_member mask n → after ≡ now ++ next_number first n
     → Listing mask before after false (n + 1)
-Listing-member mask before now after first n so_far is put = record {
-  is_text =
-      put
-      ∙ ap (λ t. t ++ next_number first n) so_far.is_text
-      ∙ append_assoc before (numbers_text (members_below mask n)) (next_number first n)
-      ∙ ap (λ b. before ++ (numbers_text (members_below mask n) ++ next_number b n)) so_far.begins
-      ∙ ap (λ t. before ++ t) (sym (numbers_text-more (members_below mask n) n))
-      ∙ ap (λ ns. before ++ numbers_text ns) (sym (members_below-member mask n (sym is)));
-  begins = sym (is_nil-more (members_below mask n) n) ∙ ap is_nil (sym (members_below-member mask n (sym is)));
-}
+Listing-member mask before now after first n so_far is put =
+    let members = members_below-member mask n (sym is) in
+    record {
+      is_text = rw (put, so_far.is_text, members, numbers_text-more (members_below mask n) n, so_far.begins) (append_assoc before (numbers_text (members_below mask n)) (next_number (is_nil (members_below mask n)) n));
+      begins = rw (members, is_nil-more (members_below mask n) n) refl;
+    }
 
 -- a number that isn't one
 pub Listing-other : (mask : Mask) (before now : List ℕ) (first : Bool) (n : ℕ)
     → Listing mask before now first n → false ≡ has_member mask n → Listing mask before now first (n + 1)
-Listing-other mask before now first n so_far is = record {
-  is_text = so_far.is_text ∙ ap (λ ns. before ++ numbers_text ns) (sym (members_below-other mask n (sym is)));
-  begins = so_far.begins ∙ ap is_nil (sym (members_below-other mask n (sym is)));
-}
+Listing-other mask before now first n so_far is =
+    let members = members_below-other mask n (sym is) in
+    record { is_text = rw members so_far.is_text; begins = rw members so_far.begins }
 
 -- all that a mask can have
 pub Listing-all : (mask : Mask) (before now : List ℕ) (first : Bool) (n : ℕ)

@@ -11,44 +11,26 @@ use Rattle.lab_script.specs.declared.error.ScriptWhy.TheVariants as why
 use Rattle.lab_stop.specs.declared.stop.Stop.TheVariants as stops
 
 -- a stop at a text that is refused: for memory, or with the refusal
-abbrev IsRefused : ScriptError → Stop → Result Request ScriptError → Type 0
-IsRefused error stop asked = (stop ≡ stops.Memory) ⊎ ((stop ≡ stops.Script error) × (asked ≡ Err error))
+IsScriptStop-either : (cause : ScriptWhy) (error : ScriptError) (stop : Stop) → IsScriptStop cause error stop → (stop ≡ stops.Memory) ⊎ (stop ≡ stops.Script error)
+IsScriptStop-either why.Memory error stop is = inl is
+IsScriptStop-either cause error stop is = inr is
 
-IsRefused-of : (cause : ScriptWhy) (error : ScriptError) (stop : Stop) (asked : Result Request ScriptError)
-    → Refuses cause error asked → IsScriptStop cause error stop → IsRefused error stop asked
-IsRefused-of why.Memory error stop asked refuses is = inl is
-IsRefused-of cause error stop asked refuses is = inr (is, refuses)
-
-IsRefused-cause : (error : ScriptError) (stop : Stop) (asked : Result Request ScriptError)
-    → IsRefused error stop asked → IsCauseOf stop (as_request asked)
-IsRefused-cause error stop asked (inl is) = subst (λ (s : Stop). IsCauseOf s (as_request asked)) (sym is) tt
-IsRefused-cause error stop asked (inr is) = subst (λ (s : Stop). IsCauseOf s (as_request asked)) (sym is.0) (ap as_request is.1)
-
-misses_none : {Y : Type 0} (error : ScriptError) (stop : Stop) (asked : Result Request ScriptError) (given : Result Y Cause)
-    → IsRefused error stop asked → Misses {X = Unit {0}} (Err stop) given
-misses_none {Y} error stop asked given (inl is) = subst (λ (s : Stop). Misses {X = Unit {0}} (Err s) given) (sym is) tt
-misses_none {Y} error stop asked given (inr is) = subst (λ (s : Stop). Misses {X = Unit {0}} (Err s) given) (sym is.0) tt
-
-faults_none : (error : ScriptError) (stop : Stop) (asked : Result Request ScriptError) (before now : ℕ)
-    → IsRefused error stop asked → now ≡ before → FetchFaults {X = Unit {0}} (Err stop) before now
-faults_none error stop asked before now (inl is) same =
-    subst (λ (s : Stop). FetchFaults {X = Unit {0}} (Err s) before now) (sym is) same
-faults_none error stop asked before now (inr is) same =
-    subst (λ (s : Stop). FetchFaults {X = Unit {0}} (Err s) before now) (sym is.0) same
+IsCauseOf-text : (cause : ScriptWhy) (error : ScriptError) (stop : Stop) (asked : Result Request ScriptError) → Refuses cause error asked → IsScriptStop cause error stop
+    → IsCauseOf stop (as_request asked)
+IsCauseOf-text why.Memory error stop asked refuses is = rw is tt
+IsCauseOf-text cause error stop asked refuses is = rw is (ap as_request refuses)
 
 -- a stop at a text that is refused is at no missing file
 pub Misses-refused : {Y : Type 0} (error : ScriptError) (stop : Stop) (asked : Result Request ScriptError) (given : Result Y Cause)
     → Refuses error.why error asked → IsScriptStop error.why error stop
     → Misses {X = Unit {0}} (Err stop) given
-Misses-refused {Y} error stop asked given refuses is =
-    misses_none error stop asked given (IsRefused-of error.why error stop asked refuses is)
+Misses-refused error stop asked given refuses is = elim (IsScriptStop-either error.why error stop is) [ inl e ↦ rw e tt | inr e ↦ rw e tt ]
 
 -- a stop at a text that is refused counts no fault
 pub FetchFaults-refused : (error : ScriptError) (stop : Stop) (asked : Result Request ScriptError) (before now : ℕ)
     → Refuses error.why error asked → IsScriptStop error.why error stop
     → now ≡ before → FetchFaults {X = Unit {0}} (Err stop) before now
-FetchFaults-refused error stop asked before now refuses is same =
-    faults_none error stop asked before now (IsRefused-of error.why error stop asked refuses is) same
+FetchFaults-refused error stop asked before now refuses is same = elim (IsScriptStop-either error.why error stop is) [ inl e ↦ rw e same | inr e ↦ rw e same ]
 
 -- what is asked, where this is what the bytes of the text are
 abbrev request_from : Result (List ℕ) Cause → Result Request Cause
@@ -77,4 +59,4 @@ pub request_in-refused : (files : Option Files) (name text spelled : List ℕ) (
 request_in-refused files name text spelled error stop read same refuses is m told =
     subst (λ (r : Result Request Cause). IsCauseOf stop r)
     (sym (request_in-read files name text spelled (request_of_text spelled) read same refl m told))
-    (IsRefused-cause error stop (request_of_text spelled) (IsRefused-of error.why error stop (request_of_text spelled) refuses is))
+    (IsCauseOf-text error.why error stop (request_of_text spelled) refuses is)

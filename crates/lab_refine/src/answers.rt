@@ -2,7 +2,7 @@
 ghost use Rattle.std.specs.Prelude.{◌≡◌, ◌++◌, All, IfOk, OnOk, string_bytes};
 ghost use Rattle.hw_space.specs.Settled.{IsGreatest, space_left};
 ghost use Rattle.hw_space.specs.Widest.{widest};
-ghost use Rattle.lab_refine.specs.Answers.{AreAnswers, IsAppended, choice_line, chosen_line, left_line, value_line};
+ghost use Rattle.lab_refine.specs.Answers.{AreAnswers, IsAppended, choice_line, left_line, value_line};
 ghost use Rattle.lab_refine.specs.Grammar.{IsAsk, IsSlaveLine};
 
 use crate::params::name;
@@ -88,17 +88,6 @@ fn push_config(text: &mut String, config: &Config) -> Result<(), AllocError>
     )
 }
 
-/// Appends the line of the configuration that was chosen, or that there is none.
-fn push_choice(text: &mut String, choice: &Result<Config, Empty>) -> Result<(), AllocError>
-    ensures { OnOk result
-        (string_bytes text.new ≡ string_bytes text.old ++ chosen_line choice.now) }
-{
-    match choice {
-        Ok(config) => push_config(text, config),
-        Err(Empty) => writeln!(text, "choice empty"),
-    }
-}
-
 /// Appends the answer to what a line asks of the space.
 fn answer(text: &mut String, space: &mut Space, slave: &Slave, ask: Ask) -> Result<(), AllocError>
     requires { IsAsk ask }
@@ -127,7 +116,10 @@ fn answer(text: &mut String, space: &mut Space, slave: &Slave, ask: Ask) -> Resu
             push_left(text, space, param, &narrowed)
         }
         Ask::Show(param) => push_value(text, space, param),
-        Ask::Choose => push_choice(text, &space.choose(slave)),
+        Ask::Choose => match space.choose(slave) {
+            Ok(config) => push_config(text, &config),
+            Err(Empty) => writeln!(text, "choice empty"),
+        },
     }
 }
 

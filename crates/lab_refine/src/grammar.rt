@@ -1,8 +1,8 @@
 //! What each line of a text says.
 ghost use Rattle.std.specs.Prelude.{◌≡◌, ◌≤◌, IfOk, false};
-ghost use Rattle.lab_refine.specs.Params.{is_mask, most_of};
+ghost use Rattle.lab_refine.specs.Params.{is_mask};
 ghost use Rattle.text_words.specs.Lexing.{words_between};
-ghost use Rattle.lab_refine.specs.Grammar.{IsAsk, IsSlaveLine, ask_of, asked_by, bounded_in, ring_fits, first_word_cause, result_view, slave_keys_in, slave_of, slave_with, valued_in, verb_of, whole_interval_in, whole_param_in};
+ghost use Rattle.lab_refine.specs.Grammar.{IsAsk, IsSlaveLine, ask_of, asked_by, bounded_in, ring_fits, first_word_cause, slave_of, slave_with, verb_of};
 
 use crate::params::most_of;
 use crate::place::{end, interval, keyed, number, param, word};
@@ -56,20 +56,6 @@ fn misplaced(word: &[u8]) -> ScriptWhy
     }
 }
 
-/// What follows the word `slave`.
-#[tactic(auto, unfolding(crate::specs::Grammar::slave_keys_in))]
-fn slave_keys(line: &[u8]) -> Result<&[u8], ScriptWhy>
-    ensures { result_view (λ r. words_between r.now) result
-        ≡ slave_keys_in (words_between line.now) }
-{
-    let (first, rest) = word(line)?;
-    if first == b"slave".as_slice() {
-        Ok(rest)
-    } else {
-        Err(misplaced(first))
-    }
-}
-
 /// Whether a ring is a multiple of a period, which is at most half of it.
 fn fits(period: u64, ring: u64) -> bool
     requires period { 1 ≤ period }
@@ -103,30 +89,21 @@ fn slave_with(channels: u64, rate: u64, period: u64, ring: u64) -> Result<SlaveL
 }
 
 /// The slave of a line `slave channels C rate R period P ring N`.
-#[tactic(auto, unfolding(crate::specs::Grammar::slave_of))]
+#[tactic(auto, unfolding(crate::specs::Grammar::slave_of, crate::specs::Grammar::slave_keys_in))]
 pub(crate) fn read_slave(line: &[u8]) -> Result<SlaveLine, ScriptWhy>
     ensures slave { result ≡ slave_of (words_between line.now) }
     ensures ranges { IfOk result IsSlaveLine }
 {
-    let keys = slave_keys(line)?;
+    let (first, keys) = word(line)?;
+    if first != b"slave".as_slice() {
+        return Err(misplaced(first));
+    }
     let (channels, keys) = keyed(keys, b"channels", 1, 8)?;
     let (rate, keys) = keyed(keys, b"rate", 4000, 192_000)?;
     let (period, keys) = keyed(keys, b"period", 16, u64::MAX)?;
     let (ring, rest) = keyed(keys, b"ring", 64, 16_384)?;
     end(rest, ScriptWhy::Extra)?;
     slave_with(channels, rate, period, ring)
-}
-
-/// A parameter and a value for it, to a line's end.
-#[tactic(auto, unfolding(crate::specs::Grammar::valued_in))]
-fn valued(line: &[u8]) -> Result<(Param, u32), ScriptWhy>
-    ensures value { result ≡ valued_in (words_between line.now) }
-    ensures within { IfOk result (λ v. v.1 ≤ most_of v.0) }
-{
-    let (param, rest) = param(line)?;
-    let (value, rest) = number(rest, 0, most_of(param))?;
-    end(rest, ScriptWhy::Extra)?;
-    Ok((param, value as u32))
 }
 
 /// A parameter that is an interval and a value for it, to a line's end.
@@ -141,37 +118,18 @@ fn bounded(line: &[u8]) -> Result<(Param, u32), ScriptWhy>
     Ok((param, value as u32))
 }
 
-/// A parameter, to a line's end.
-#[tactic(auto, unfolding(crate::specs::Grammar::whole_param_in))]
-fn whole_param(line: &[u8]) -> Result<Param, ScriptWhy>
-    ensures { result ≡ whole_param_in (words_between line.now) }
-{
-    let (param, rest) = param(line)?;
-    end(rest, ScriptWhy::Extra)?;
-    Ok(param)
-}
-
-/// A parameter that is an interval, to a line's end.
-#[tactic(auto, unfolding(crate::specs::Grammar::whole_interval_in))]
-fn whole_interval(line: &[u8]) -> Result<Param, ScriptWhy>
-    ensures value { result ≡ whole_interval_in (words_between line.now) }
-    ensures interval { IfOk result (λ p. is_mask p ≡ false) }
-{
-    let (param, rest) = interval(line)?;
-    end(rest, ScriptWhy::Extra)?;
-    Ok(param)
-}
-
 /// What the words after a line's first word ask.
-#[tactic(auto, unfolding(crate::specs::Grammar::asked_by))]
+#[tactic(auto, unfolding(crate::specs::Grammar::asked_by, crate::specs::Grammar::valued_in, crate::specs::Grammar::whole_interval_in, crate::specs::Grammar::whole_param_in))]
 fn asked_by(verb: Verb, line: &[u8]) -> Result<Ask, ScriptWhy>
     ensures value { result ≡ asked_by verb (words_between line.now) }
     ensures can { IfOk result IsAsk }
 {
     match verb {
         Verb::Set => {
-            let (param, value) = valued(line)?;
-            Ok(Ask::Set(param, value))
+            let (param, rest) = param(line)?;
+            let (value, rest) = number(rest, 0, most_of(param))?;
+            end(rest, ScriptWhy::Extra)?;
+            Ok(Ask::Set(param, value as u32))
         }
         Verb::Min => {
             let (param, value) = bounded(line)?;
@@ -185,8 +143,16 @@ fn asked_by(verb: Verb, line: &[u8]) -> Result<Ask, ScriptWhy>
             let (param, value) = bounded(line)?;
             Ok(Ask::Near(param, value))
         }
-        Verb::Integer => Ok(Ask::Integer(whole_interval(line)?)),
-        Verb::Show => Ok(Ask::Show(whole_param(line)?)),
+        Verb::Integer => {
+            let (param, rest) = interval(line)?;
+            end(rest, ScriptWhy::Extra)?;
+            Ok(Ask::Integer(param))
+        }
+        Verb::Show => {
+            let (param, rest) = param(line)?;
+            end(rest, ScriptWhy::Extra)?;
+            Ok(Ask::Show(param))
+        }
         Verb::Choose => {
             end(line, ScriptWhy::Extra)?;
             Ok(Ask::Choose)

@@ -1,12 +1,12 @@
 -- The card, the clients, the readers and the ops of their lines are in their ranges.
-use Rattle.lab_script.specs.Prelude.{arith, Bool, bytes_eq, codes, cond, false, is_some, length, List, nat_le, not, Ok, Option, refl, Some, subst, true, ℕ, []}
-use Rattle.lab_script.specs.Prelude.{◌/◌, ◌<◌, ◌∷◌, ◌≡◌, ◌≤◌, leb-false, row_of, Actor, Card, Client, Reader, Op, CardLine, ClientLine, ReaderLine, IsCardLine}
-use Rattle.lab_script.specs.Prelude.{IsClientLine, IsIn, IsOpOf, IsReaderLine, end_of, refuse_if, some_or, word_and_rest, actor_named, card_of, client_of}
-use Rattle.lab_script.specs.Prelude.{divides, reader_of, State, bindings_where, byte_given, file_of, file_where, keys_from, name_of, number_given, number_in}
-use Rattle.lab_script.specs.Prelude.{small_given, word_after, op_of, op_with, ops_of, with_count}
+use Rattle.lab_script.specs.Prelude.{arith, bytes_eq, codes, false, inl, inr, is_some, length, List, nat_le, not, Ok, refl, Some, subst, ℕ, [], ◌/◌, ◌<◌, ◌∷◌}
+use Rattle.lab_script.specs.Prelude.{◌≡◌, ◌≤◌, cases_Bool, leb-false, nat_tests, row_of, Actor, Card, Client, Reader, Op, CardLine, ClientLine, ReaderLine}
+use Rattle.lab_script.specs.Prelude.{IsCardLine, IsClientLine, IsIn, IsOpOf, IsReaderLine, refuse_if, some_or, word_and_rest, actor_named, card_of, client_of}
+use Rattle.lab_script.specs.Prelude.{divides, reader_of, State, bindings_where, byte_given, file_of, file_where, keys_from, name_of, number_given, small_given}
+use Rattle.lab_script.specs.Prelude.{word_after, op_of, op_with, ops_of, with_count}
 use Rattle.lab_script.specs.declared.ops.Form.{Form}
 use Rattle.lab_script.specs.declared.ops.Form.TheVariants.{Plain, Counted}
-use Rattle.lab_script.proofs.Ranges.{bind_ok, ok_to, not_refused, some_is, number_in-range, given_number, given_where, given_stop, limited_in, name_of-is, file_of-is, file_where-is, bindings_where-is, divides-half, divides-rest}
+use Rattle.lab_script.proofs.Ranges.{bind_ok, ok_to, not_refused, some_is, given_number, given_where, given_stop, limited_in, name_of-is, file_of-is, file_where-is, bindings_where-is, divides-half, divides-rest}
 use Rattle.lab_script.specs.declared.error.ScriptWhy.TheVariants as why
 use Rattle.lab_script.specs.declared.keys.Kind.TheVariants as kind
 
@@ -112,13 +112,12 @@ abbrev pub RowsHave : {A : Type 0} → (A → Type 0) → List (List ℕ × A) �
 RowsHave P [] = Unit {0}
 RowsHave P (row ∷ rows) = P row.1 × (RowsHave P rows)
 
-row_by : {A : Type 0} (P : A → Type 0) (y x : A) (rest : Option A) (b : Bool) → P y → (rest ≡ Some x → P x) → cond b (Some y) rest ≡ Some x → P x
-row_by P y x rest true h r e = let same : y ≡ x = cc (e) in subst P same h
-row_by P y x rest false h r e = r e
-
 pub row_of-has : {A : Type 0} (P : A → Type 0) (rows : List (List ℕ × A)) (w : List ℕ) (x : A) → RowsHave P rows → row_of rows w ≡ Some x → P x
 row_of-has P [] w x h e = absurd (cc)
-row_of-has P (row ∷ rows) w x h e = row_by P row.1 x (row_of rows w) (bytes_eq w row.0) h.0 (row_of-has P rows w x h.1) e
+row_of-has P (row ∷ rows) w x h e = elim (cases_Bool (bytes_eq w row.0)) [
+  | inl is ↦ let same : row.1 ≡ x = cc (rw is at e) in subst P same h.0
+  | inr isnt ↦ row_of-has P rows w x h.1 (rw isnt at e)
+]
 
 -- what a form of an op asks for is in its range
 abbrev pub IsFormOf : Actor → Form → Type 0
@@ -126,20 +125,10 @@ IsFormOf actor (Plain o) = IsOpOf actor o
 IsFormOf actor (Counted o most) = (n : ℕ) → n ≤ most → IsOpOf actor (with_count o n)
 
 ops_of-have : (actor : Actor) → RowsHave (IsFormOf actor) (ops_of actor)
-ops_of-have Card = ((λ n h. h), (tt, tt))
-ops_of-have (Client number) = ((λ n h. h), (tt, (tt, (tt, (tt, (tt, (tt, (tt, (tt, (tt, ((λ n h. h), (tt, ((λ n h. h), tt)))))))))))))
-ops_of-have (Reader number) = ((λ n h. h), (tt, (tt, (tt, (tt, (tt, (tt, ((λ n h. h), tt))))))))
+ops_of-have actor = grind (arith, nat_tests)
 
 op_with-is : (actor : Actor) (form : Form) (ws : List (List ℕ)) (o : Op) → IsFormOf actor form → op_with form ws ≡ Ok o → IsOpOf actor o
-op_with-is actor (Plain x) ws o h e =
-    let a = bind_ok (end_of ws) (λ u. Ok x) o e in
-    ok_to (IsOpOf actor) x o a.2 h
-op_with-is actor (Counted x most) ws o h e =
-    let number = bind_ok (word_and_rest ws) _ o e in
-    let n = bind_ok (number_in 0 most number.0.0) _ o number.2 in
-    let end = bind_ok (end_of number.0.1) _ o n.2 in
-    let r = number_in-range 0 most number.0.0 n.0 n.1 in
-    ok_to (IsOpOf actor) (with_count x n.0) o end.2 (h n.0 r.1.high)
+op_with-is actor form ws o h e = grind (arith, nat_tests)
 
 -- what is asked for is something that the actor can be asked for
 pub op_of-is : (actor : Actor) (ws : List (List ℕ)) (o : Op) → op_of actor ws ≡ Ok o → IsOpOf actor o

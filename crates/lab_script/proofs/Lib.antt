@@ -1,6 +1,5 @@
 pub mod Words
 pub mod OpTexts
-pub mod Checks
 pub mod Pairs
 pub mod Ranges
 pub mod Kept

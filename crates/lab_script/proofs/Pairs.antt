@@ -1,18 +1,14 @@
 -- Tests over a list of references, products of numbers of 32 bits, and what is refused after a first word or line.
-use Rattle.lab_script.specs.Prelude.{ap, arith, Bool, List, map, Ok, refl, Result, Some, sym, ℕ, [], ◌*◌, ◌++◌, ◌||◌, ◌∙◌, ◌∷◌, ◌≡◌, ◌≤◌, mul-le-mul_left}
-use Rattle.lab_script.specs.Prelude.{list_any, first_and_rest, ScriptError, ScriptWhy, Kind, Takes, Refuses, ◌>>=◌, key_value, keys_from, value_of, card_line}
-use Rattle.lab_script.specs.Prelude.{on_line, refusal_at, RefusesAt, script_of_lines}
+use Rattle.lab_script.specs.Prelude.{ap, arith, Bool, List, map, Ok, refl, Result, Some, sym, ℕ, [], ◌*◌, ◌++◌, ◌||◌, ◌∙◌, ◌∷◌, ◌≡◌, ◌≤◌, list_any}
+use Rattle.lab_script.specs.Prelude.{first_and_rest, ScriptError, ScriptWhy, Kind, Takes, Refuses, ◌>>=◌, key_value, keys_from, value_of, card_line, on_line}
+use Rattle.lab_script.specs.Prelude.{refusal_at, RefusesAt, script_of_lines}
+use Rattle.std.proofs.Math.Nat.{mul-le-mul_left}
 use Rattle.lab_script.specs.declared.error.ScriptWhy.TheVariants as why
 
 -- a test over the values of a function
 pub list_any_map : {X Y : Type 0} (p : Y → Bool) (f : X → Y) (xs : List X) → list_any p (map f xs) ≡ list_any (λ x. p (f x)) xs
 list_any_map p f [] = refl
 list_any_map p f (x ∷ xs) = ap (λ b. p (f x) || b) (list_any_map p f xs)
-
--- a function's values, with one more
-pub map_more : {X Y : Type 0} (f : X → Y) (xs : List X) (x : X) → map f (xs ++ x ∷ []) ≡ map f xs ++ f x ∷ []
-map_more f [] x = refl
-map_more f (y ∷ ys) x = ap (λ zs. f y ∷ zs) (map_more f ys x)
 
 -- the product of two numbers of 32 bits
 pub product_most : (a b : ℕ) → a ≤ 4294967295 → b ≤ 4294967295 → a * b ≤ 18446744065119617025

@@ -1,26 +1,25 @@
 -- What the lines that are read so far keep: ranges, names that differ, actors that there are, and the card's limits.
-use Rattle.lab_script.specs.Prelude.{ap, arith, Bool, cond, Err, false, get_or, is_some, length, length-append, List, nat_le, nat_lt, None, not, Ok, Option}
-use Rattle.lab_script.specs.Prelude.{option_map, refl, Result, Some, subst, suc, sym, true, zero, ℕ, [], ◌&&◌, ◌*◌, ◌++◌, ◌+◌, ◌<◌, ◌==◌, ◌||◌, ◌∙◌, ◌∷◌, ◌≡◌}
-use Rattle.lab_script.specs.Prelude.{◌≢◌, ◌≤◌, mul-le-mul_right, leb-false, ltb-false, or_parts, or_right, nat_tests, not_from_Decides, bytes_eq-Decides, All}
-use Rattle.lab_script.specs.Prelude.{AllPairs, list_any, position, position_or_len, row_of, Actor, Card, Client, Reader, CardLine, ClientLine, ReaderLine}
-use Rattle.lab_script.specs.Prelude.{IsActor, IsAlone, IsBorder, IsCardLine, IsClientLine, IsGoneAfter, IsItem, IsLine, IsReaderLine, IsScript, first_frame}
-use Rattle.lab_script.specs.Prelude.{frames_played, is_card_line, is_of_card, is_unplug, phases_of, played_by, played_in, unplugs, ScriptError, ScriptWhy}
-use Rattle.lab_script.specs.Prelude.{end_of, refuse_if, some_or, word_and_rest, actor_named, border_of, card_alone, client_of, ends_lap, inside, is_beside}
-use Rattle.lab_script.specs.Prelude.{is_client, is_reader, keywords, line_at, or_else, outside, reader_of, State, unknown_inside, unknown_outside, with_client}
-use Rattle.lab_script.specs.Prelude.{with_close, with_end, with_line, with_open, with_phase, with_reader, with_words, op_of, after, Answers, card_line}
-use Rattle.lab_script.specs.Prelude.{first_by, on_line, script_at, script_at_end, script_of_lines}
-use Rattle.std.proofs.lemmas.List.{append-nil}
+use Rattle.lab_script.specs.Prelude.{ap, arith, Bool, cond, Err, false, get_or, is_some, length, length-append, List, nat_lt, None, not, Ok, Option, option_map}
+use Rattle.lab_script.specs.Prelude.{refl, Result, Some, subst, suc, sym, true, ℕ, [], ◌&&◌, ◌*◌, ◌++◌, ◌+◌, ◌<◌, ◌==◌, ◌||◌, ◌∙◌, ◌∷◌, ◌≡◌, ◌≢◌, ◌≤◌}
+use Rattle.lab_script.specs.Prelude.{ltb-false, or_parts, nat_tests, not_from_Decides, append-nil, bytes_eq-Decides, All, AllPairs, list_any, position}
+use Rattle.lab_script.specs.Prelude.{position_or_len, row_of, Actor, Card, Client, Reader, CardLine, ClientLine, ReaderLine, IsActor, IsAlone, IsBorder}
+use Rattle.lab_script.specs.Prelude.{IsCardLine, IsClientLine, IsGoneAfter, IsItem, IsLine, IsReaderLine, IsScript, ScriptError, ScriptWhy, end_of, refuse_if}
+use Rattle.lab_script.specs.Prelude.{actor_named, border_of, card_alone, client_of, ends_lap, inside, is_beside, is_client, is_reader, keywords, line_at}
+use Rattle.lab_script.specs.Prelude.{or_else, outside, reader_of, State, unknown_inside, unknown_outside, with_client, with_close, with_end, with_line}
+use Rattle.lab_script.specs.Prelude.{with_open, with_phase, with_reader, with_words, op_of, after, Answers, card_line, first_by, on_line, script_at}
+use Rattle.lab_script.specs.Prelude.{script_at_end, script_of_lines}
 use Rattle.std.proofs.lemmas.List.Elements.{All-push, All-nil}
-use Rattle.std.proofs.lemmas.List.Folds.{list_any-append}
+use Rattle.std.proofs.lemmas.List.Folds.{list_any-append, list_any_at}
 use Rattle.std.proofs.lemmas.List.Quantifiers.{all_pairs_push}
 use Rattle.std.proofs.lemmas.List.Sums.{fails_before_first, sum_by_push}
 use Rattle.std.specs.Result.{IfOk}
 use Rattle.lab_lines.specs.declared.line.Item.{Item}
 use Rattle.lab_lines.specs.declared.line.Line.{Line}
 use Rattle.lab_lines.specs.declared.script.Script.{Script}
+use Rattle.lab_lines.specs.Script.{first_frame, frames_played, is_card_line, is_of_card, is_unplug, phases_of, played_by, played_in, unplugs}
 use Rattle.lab_script.specs.declared.keyword.Keyword.{Keyword}
 use Rattle.lab_script.proofs.Kept.{card_of-ranges, IsNewClient, client_of-ranges, IsNewReader, reader_of-ranges, op_of-is}
-use Rattle.lab_script.proofs.Ranges.{bind_ok, ok_to, not_refused, some_is}
+use Rattle.lab_script.proofs.Ranges.{bind_ok, ok_to, not_refused}
 use Rattle.lab_script.specs.declared.error.ScriptWhy.TheVariants as why
 use Rattle.lab_script.specs.declared.keyword.Keyword.TheVariants as keyword
 use Rattle.lab_lines.specs.declared.line.Item.TheVariants as item
@@ -68,60 +67,28 @@ pub record IsState (s : State) : Type 0 where
   pub phases : ArePhases (phases_of s.body) s.lines s.phase s.phases s.gone
   pub played : ArePlayed s.card (phases_of s.body) s.lines s.played
 
-laps_at_first : (lap ring : ℕ) → lap ≤ 4294967294 → lap * ring + 0 + ring ≤ 4294967295 * ring
-laps_at_first lap ring h = omega (arith, mul-le-mul_right {m = lap} {n = 4294967294} ring h)
-
 -- a card alone
 pub begun-kept : (card : CardLine) → IsCardLine card → IsState (card_alone card)
-begun-kept card h = record {
-  card = h;
-  declared = record {
-    few_clients = omega arith;
-    few_readers = omega arith;
-    each_client = All-nil _;
-    each_reader = All-nil _;
-    clients_differ = λ i j d a b. absurd (omega (arith, b));
-    readers_differ = λ i j d a b. absurd (omega (arith, b));
-    apart = All-nil _;
-  };
-  items = record { each_item = All-nil _; each_line = All-nil _; alone = λ e. absurd (cc) };
-  phases = record { count_is = refl; few = omega arith; after = λ i j d a b. absurd (omega (arith, b)); lines_after = All-nil _; gone_is = refl };
-  played = record { sum = refl; frames = omega arith; laps = laps_at_first card.lap card.ring h.lap };
-}
+begun-kept card h = grind (arith, nat_tests)
 
 -- a place of a list, where there is one
 abbrev pub IsPlaceIn : ℕ → Option ℕ → Type 0
 IsPlaceIn n None = Unit {0}
 IsPlaceIn n (Some i) = i < n
 
-place_by : (i n : ℕ) (b : Bool) → nat_lt i n ≡ b → IsPlaceIn n (cond b (Some i) None)
-place_by i n true e = grind (arith, nat_tests)
-place_by i n false e = tt
-
-position-in : {X : Type 0} (p : X → Bool) (xs : List X) → IsPlaceIn (length xs) (position p xs)
-position-in p xs = place_by (position_or_len p xs) (length xs) (nat_lt (position_or_len p xs) (length xs)) refl
-
 named_by : (m n : ℕ) (o p : Option ℕ) (actor : Actor) → IsPlaceIn m o → IsPlaceIn n p
     → or_else (option_map Client o) (option_map Reader p) ≡ Some actor → IsBorder m n actor
-named_by m n None None actor a b e = absurd (cc)
-named_by m n None (Some j) actor a b e = let same : Reader j ≡ actor = cc (e) in subst (IsBorder m n) same b
-named_by m n (Some i) p actor a b e = let same : Client i ≡ actor = cc (e) in subst (IsBorder m n) same a
+named_by m n o p actor a b e = grind (arith, nat_tests)
 
 -- who is named is declared
 pub named-is : (s : State) (w : List ℕ) (actor : Actor) → actor_named s w ≡ Some actor → IsBorder (length s.clients) (length s.readers) actor
-named-is s w actor e =
-    named_by (length s.clients) (length s.readers) (position (is_client w) s.clients) (position (is_reader w) s.readers) actor
-    (position-in (is_client w) s.clients) (position-in (is_reader w) s.readers) e
+named-is s w actor e = grind (arith, nat_tests)
 
 pub border-actor : (m n : ℕ) (actor : Actor) → IsBorder m n actor → IsActor m n actor
-border-actor m n Card h = tt
-border-actor m n (Client k) h = h
-border-actor m n (Reader k) h = h
+border-actor m n actor h = grind (arith, nat_tests)
 
 unnamed : (o p : Option ℕ) → is_some (or_else (option_map Client o) (option_map Reader p)) ≡ false → (o ≡ None) × (p ≡ None)
-unnamed None None e = (refl, refl)
-unnamed None (Some j) e = absurd (cc)
-unnamed (Some i) p e = absurd (cc)
+unnamed o p e = grind (arith, nat_tests)
 
 none_by : (i n : ℕ) (b : Bool) → nat_lt i n ≡ b → cond b (Some i) None ≡ None → n ≤ i
 none_by i n true e g = absurd (cc)
@@ -142,26 +109,14 @@ reader-differs s w e k d h =
     let none = unnamed (position (is_client w) s.clients) (position (is_reader w) s.readers) e in
     not_from_Decides _ (bytes_eq-Decides (get_or s.readers k d).name w) (position-none (is_reader w) s.readers k d none.1 h)
 
-more_border : (m n p q : ℕ) (actor : Actor) → m ≤ p → n ≤ q → IsBorder m n actor → IsBorder p q actor
-more_border m n p q Card a b h = absurd h
-more_border m n p q (Client k) a b h = omega (arith, h)
-more_border m n p q (Reader k) a b h = omega (arith, h)
-
 more_actor : (m n p q : ℕ) (actor : Actor) → m ≤ p → n ≤ q → IsActor m n actor → IsActor p q actor
-more_actor m n p q Card a b h = tt
-more_actor m n p q (Client k) a b h = omega (arith, h)
-more_actor m n p q (Reader k) a b h = omega (arith, h)
-
-more_line : (m n p q : ℕ) (line : Line) → m ≤ p → n ≤ q → IsLine m n line → IsLine p q line
-more_line m n p q line a b h = record { actor = more_actor m n p q line.actor a b h.actor; op = h.op }
+more_actor m n p q actor a b h = grind (arith, nat_tests)
 
 more_lines : (m n p q : ℕ) (lines : List Line) → m ≤ p → n ≤ q → All (IsLine m n) lines → All (IsLine p q) lines
-more_lines m n p q lines a b all = λ k d h. more_line m n p q _ a b (all k d h)
+more_lines m n p q lines a b all = λ k d h. let line = all k d h in record { actor = more_actor m n p q _ a b line.actor; op = line.op }
 
 more_item : (m n p q : ℕ) (i : Item) → m ≤ p → n ≤ q → IsItem m n i → IsItem p q i
-more_item m n p q (item.Opens number actor) a b h = more_border m n p q actor a b h
-more_item m n p q (item.Closes number actor) a b h = more_border m n p q actor a b h
-more_item m n p q (item.Phase lines) a b h = record { each = more_lines m n p q lines a b h.each; alone = h.alone }
+more_item m n p q i a b h = grind (arith, nat_tests)
 
 more : (m n p q : ℕ) (body : List Item) (lines : List Line) → m ≤ p → n ≤ q → AreItems m n body lines → AreItems p q body lines
 more m n p q body lines a b are = record { each_item = λ k d h. more_item m n p q _ a b (are.each_item k d h); each_line = more_lines m n p q lines a b are.each_line; alone = are.alone }
@@ -173,21 +128,12 @@ client-kept s client new st =
     let at_least : length s.clients ≤ length (s.clients ++ client ∷ []) = omega arith in
     let same : length s.readers ≤ length s.readers = omega arith in
     let before = st.declared in
-    record {
-      card = st.card;
-      declared = record {
-        few_clients = omega (arith, new.room);
-        few_readers = before.few_readers;
-        each_client = All-push (IsClientLine s.card) s.clients client before.each_client new.line;
-        each_reader = before.each_reader;
-        clients_differ = all_pairs_push (λ (a : ClientLine) (b : ClientLine). a.name ≢ b.name) s.clients client before.clients_differ (client-differs s client.name new.new);
-        readers_differ = before.readers_differ;
-        apart = All-push (λ (c : ClientLine). All (λ (reader : ReaderLine). c.name ≢ reader.name) s.readers) s.clients client before.apart (λ k d h e. reader-differs s client.name new.new k d h (sym e));
-      };
-      items = more _ _ _ _ s.body s.lines at_least same st.items;
-      phases = st.phases;
-      played = st.played;
-    }
+    let few : length (s.clients ++ client ∷ []) ≤ 64 = omega (arith, new.room) in
+    let each = All-push (IsClientLine s.card) s.clients client before.each_client new.line in
+    let differ = all_pairs_push (λ (a : ClientLine) (b : ClientLine). a.name ≢ b.name) s.clients client before.clients_differ (client-differs s client.name new.new) in
+    let apart = All-push (λ (c : ClientLine). All (λ (reader : ReaderLine). c.name ≢ reader.name) s.readers) s.clients client before.apart (λ k d h e. reader-differs s client.name new.new k d h (sym e)) in
+    let items = more _ _ _ _ s.body s.lines at_least same st.items in
+    assumption
 
 -- one reader more
 reader-kept : (s : State) (reader : ReaderLine) → IsNewReader s reader → IsState s → IsState (record s { readers = s.readers ++ reader ∷ [] })
@@ -196,21 +142,13 @@ reader-kept s reader new st =
     let at_least : length s.readers ≤ length (s.readers ++ reader ∷ []) = omega arith in
     let same : length s.clients ≤ length s.clients = omega arith in
     let before = st.declared in
-    record {
-      card = st.card;
-      declared = record {
-        few_clients = before.few_clients;
-        few_readers = omega (arith, new.room);
-        each_client = before.each_client;
-        each_reader = All-push (IsReaderLine s.card) s.readers reader before.each_reader new.line;
-        clients_differ = before.clients_differ;
-        readers_differ = all_pairs_push (λ (a : ReaderLine) (b : ReaderLine). a.name ≢ b.name) s.readers reader before.readers_differ (reader-differs s reader.name new.new);
-        apart = λ k d h. All-push (λ (r : ReaderLine). (get_or s.clients k d).name ≢ r.name) s.readers reader (before.apart k d h) (client-differs s reader.name new.new k d h);
-      };
-      items = more _ _ _ _ s.body s.lines same at_least st.items;
-      phases = st.phases;
-      played = st.played;
-    }
+    let few : length (s.readers ++ reader ∷ []) ≤ 64 = omega (arith, new.room) in
+    let each = All-push (IsReaderLine s.card) s.readers reader before.each_reader new.line in
+    let differ = all_pairs_push (λ (a : ReaderLine) (b : ReaderLine). a.name ≢ b.name) s.readers reader before.readers_differ (reader-differs s reader.name new.new) in
+    let apart : All (λ (client : ClientLine). All (λ (r : ReaderLine). client.name ≢ r.name) (s.readers ++ reader ∷ [])) s.clients =
+    λ k d h. All-push (λ (r : ReaderLine). (get_or s.clients k d).name ≢ r.name) s.readers reader (before.apart k d h) (client-differs s reader.name new.new k d h) in
+    let items = more _ _ _ _ s.body s.lines same at_least st.items in
+    assumption
 
 with_client-kept : (s : State) (number : ℕ) (ws : List (List ℕ)) (t : State) → with_client s number ws ≡ Ok t → IsState s → IsState t
 unfolding with_client
@@ -236,22 +174,14 @@ phases_of-append (item.Closes number actor ∷ xs) ys = phases_of-append xs ys
 border-kept : (s : State) (i : Item) → phases_of (i ∷ []) ≡ [] → IsItem (length s.clients) (length s.readers) i → IsState s → IsState (record s { body = s.body ++ i ∷ [] })
 border-kept s i none it st =
     let same : phases_of s.body ≡ phases_of (s.body ++ i ∷ []) = sym (phases_of-append s.body (i ∷ []) ∙ ap (λ ps. phases_of s.body ++ ps) none ∙ append-nil (phases_of s.body)) in
-    record {
-      card = st.card;
-      declared = st.declared;
-      items = record { each_item = All-push (IsItem (length s.clients) (length s.readers)) s.body i st.items.each_item it; each_line = st.items.each_line; alone = st.items.alone };
-      phases = subst (λ (ps : List (List Line)). ArePhases ps s.lines s.phase s.phases s.gone) same st.phases;
-      played = subst (λ (ps : List (List Line)). ArePlayed s.card ps s.lines s.played) same st.played;
-    }
+    let each = All-push (IsItem (length s.clients) (length s.readers)) s.body i st.items.each_item it in
+    let phases = subst (λ (ps : List (List Line)). ArePhases ps s.lines s.phase s.phases s.gone) same st.phases in
+    let played = subst (λ (ps : List (List Line)). ArePlayed s.card ps s.lines s.played) same st.played in
+    assumption
 
 border_of-is : (s : State) (ws : List (List ℕ)) (actor : Actor) → border_of s ws ≡ Ok actor → IsBorder (length s.clients) (length s.readers) actor
 unfolding border_of
-border_of-is s ws actor e =
-    let first = bind_ok (word_and_rest ws) _ actor e in
-    let who = bind_ok (some_or why.Word (actor_named s first.0.0)) _ actor first.2 in
-    let end = bind_ok (end_of first.0.1) _ actor who.2 in
-    let same : who.0 ≡ actor = cc (end.2) in
-    subst (IsBorder (length s.clients) (length s.readers)) same (named-is s first.0.0 who.0 (some_is why.Word _ who.0 who.1))
+border_of-is s ws actor e = grind (arith, nat_tests)
 
 with_open-kept : (s : State) (number : ℕ) (ws : List (List ℕ)) (t : State) → with_open s number ws ≡ Ok t → IsState s → IsState t
 unfolding with_open
@@ -271,33 +201,14 @@ open_by (Some k) number n phases e h = absurd (cc)
 
 with_phase-kept : (s : State) (number : ℕ) (ws : List (List ℕ)) (t : State) → s.phase ≡ None → with_phase s number ws ≡ Ok t → IsState s → IsState t
 unfolding with_phase
-with_phase-kept s number ws t none e st =
-    let end = bind_ok (end_of ws) _ t e in
-    let room = bind_ok (refuse_if (nat_le 4096 s.phases) why.TooMany) _ t end.2 in
-    let few : s.phases < 4096 = leb-false 4096 s.phases (not_refused _ why.TooMany room.0 room.1) in
-    let before = st.phases in
-    ok_to IsState _ t room.2 (record {
-      card = st.card;
-      declared = st.declared;
-      items = st.items;
-      phases = record {
-        count_is = open_by s.phase number (length (phases_of s.body)) s.phases none before.count_is;
-        few = omega arith;
-        after = before.after;
-        lines_after = before.lines_after;
-        gone_is = before.gone_is;
-      };
-      played = st.played;
-    })
+with_phase-kept s number ws t none e st = grind (arith, nat_tests)
 
 end_by : (phase : Option ℕ) (k n phases : ℕ) → phase ≡ Some k → n + open_phases phase ≡ phases → n + 1 + 0 ≡ phases
 end_by None k n phases e h = absurd (cc)
 end_by (Some m) k n phases e h = omega arith
 
 or_false : (a b : Bool) → (a || b) ≡ ((a || (b || false)) || false)
-or_false true b = refl
-or_false false true = refl
-or_false false false = refl
+or_false a b = grind (arith, nat_tests)
 
 with_end-kept : (s : State) (k : ℕ) (ws : List (List ℕ)) (t : State) → s.phase ≡ Some k → with_end s ws ≡ Ok t → IsState s → IsState t
 unfolding with_end
@@ -309,14 +220,11 @@ with_end-kept s k ws t some e st =
     let one : length (phases_of s.body) + 1 + 0 ≡ s.phases = end_by s.phase k (length (phases_of s.body)) s.phases some before.count_is in
     let any : list_any unplugs (phases_of s.body ++ s.lines ∷ []) ≡ (list_any unplugs (phases_of s.body) || (unplugs s.lines || false)) = list_any-append unplugs (phases_of s.body) (s.lines ∷ []) in
     let sum : frames_played (phases_of s.body ++ s.lines ∷ []) ≡ frames_played (phases_of s.body) + played_in s.lines = sum_by_push played_in (phases_of s.body) s.lines in
+    let each = All-push (IsItem (length s.clients) (length s.readers)) s.body (item.Phase s.lines) st.items.each_item (record { each = st.items.each_line; alone = st.items.alone }) in
     ok_to IsState _ t end.2 (record {
       card = st.card;
       declared = st.declared;
-      items = record {
-        each_item = All-push (IsItem (length s.clients) (length s.readers)) s.body (item.Phase s.lines) st.items.each_item (record { each = st.items.each_line; alone = st.items.alone });
-        each_line = All-nil (IsLine (length s.clients) (length s.readers));
-        alone = λ e. absurd (cc);
-      };
+      items = record { each_item = each; each_line = All-nil (IsLine (length s.clients) (length s.readers)); alone = λ e. absurd (cc) };
       phases = subst (λ (ps : List (List Line)). ArePhases ps [] None s.phases s.gone) same (record {
         count_is = omega arith;
         few = before.few;
@@ -344,22 +252,8 @@ alone-more (first ∷ second ∷ more) line h e = λ g.
     alone_by false true n P h e g = absurd (cc)
     alone_by false false n P h e g = absurd (cc)
 
-any_at : {X : Type 0} (p : X → Bool) (xs : List X) (k : ℕ) (d : X) → k < length xs → p (get_or xs k d) ≡ true → list_any p xs ≡ true
-any_at p [] k d h e = absurd (omega (arith, h))
-any_at p (x ∷ xs) zero d h e = rw e refl
-any_at p (x ∷ xs) (suc k) d h e = or_right (p x) _ (any_at p xs k d (omega (arith, h)) e)
-
-gone_by : (gone any lines card : Bool) → gone ≡ (any || lines) → (gone && card) ≡ false → any ≡ true → card ≡ false
-gone_by gone any lines card e f g = rw (e, g) at f
-
-or_both : (a b : Bool) → a ≡ false → b ≡ false → (a || (b || false)) ≡ false
-or_both a b e f = rw (e, f) refl
-
 or_more : (g a u b : Bool) → g ≡ (a || u) → (g || b) ≡ (a || (u || (b || false)))
-or_more g true u b e = rw e refl
-or_more g false true b e = rw e refl
-or_more g false false true e = rw e refl
-or_more g false false false e = rw e refl
+or_more g a u b e = grind (arith, nat_tests)
 
 -- one line more of a phase
 line-kept : (s : State) (line : Line) → IsLine (length s.clients) (length s.readers) line → is_beside s.lines line.op ≡ false → (s.gone && is_of_card line.actor) ≡ false
@@ -370,24 +264,15 @@ line-kept s line ok beside plugged frames laps st =
     let card : list_any is_card_line (s.lines ++ line ∷ []) ≡ (list_any is_card_line s.lines || (is_card_line line || false)) = list_any-append is_card_line s.lines (line ∷ []) in
     let any : unplugs (s.lines ++ line ∷ []) ≡ (unplugs s.lines || (is_unplug line.op || false)) = list_any-append (λ (l : Line). is_unplug l.op) s.lines (line ∷ []) in
     let before = st.phases in
-    record {
-      card = st.card;
-      declared = st.declared;
-      items = record {
-        each_item = st.items.each_item;
-        each_line = All-push (IsLine (length s.clients) (length s.readers)) s.lines line st.items.each_line ok;
-        alone = alone-more s.lines line st.items.alone beside;
-      };
-      phases = record {
-        count_is = before.count_is;
-        few = before.few;
-        after = before.after;
-        lines_after = λ k d h e. card ∙ or_both _ _ (before.lines_after k d h e)
-            (gone_by s.gone (list_any unplugs (phases_of s.body)) (unplugs s.lines) (is_card_line line) before.gone_is plugged (any_at unplugs (phases_of s.body) k d h e));
-        gone_is = or_more s.gone (list_any unplugs (phases_of s.body)) (unplugs s.lines) (is_unplug line.op) before.gone_is ∙ sym (ap (λ b. list_any unplugs (phases_of s.body) || b) any);
-      };
-      played = record { sum = let p = st.played.sum in omega arith; frames = frames; laps = laps };
-    }
+    let each = All-push (IsLine (length s.clients) (length s.readers)) s.lines line st.items.each_line ok in
+    let alone = alone-more s.lines line st.items.alone beside in
+    let after : All (λ (earlier : List Line). IsGoneAfter earlier (s.lines ++ line ∷ [])) (phases_of s.body) =
+    λ k d h e.
+    let here : is_card_line line ≡ false = rw (before.gone_is, list_any_at unplugs (phases_of s.body) k d h e) at plugged in
+    rw (card, before.lines_after k d h e, here) refl in
+    let gone = or_more s.gone (list_any unplugs (phases_of s.body)) (unplugs s.lines) (is_unplug line.op) before.gone_is ∙ sym (ap (λ b. list_any unplugs (phases_of s.body) || b) any) in
+    let played : frames_played (phases_of s.body) + played_in (s.lines ++ line ∷ []) ≡ s.played + played_by line.op = let p = st.played.sum in omega arith in
+    assumption
 
 with_line-kept : (s : State) (number : ℕ) (actor : Actor) (ws : List (List ℕ)) (t : State) → IsActor (length s.clients) (length s.readers) actor → with_line s number actor ws ≡ Ok t → IsState s → IsState t
 unfolding with_line
@@ -449,23 +334,7 @@ after-kept s (line ∷ lines) t e st =
     after-kept next.0 lines t next.2 (with_words-kept s line.0 line.1 next.0 next.1 st)
 
 ended-is : (s : State) (o : Option ℕ) (script : Script) → script_at_end s o ≡ Ok script → IsState s → IsScript script
-ended-is s (Some opened) script e st = absurd (cc)
-ended-is s None script e st =
-    ok_to IsScript _ script e (record {
-      card = st.card;
-      clients = st.declared.few_clients;
-      readers = st.declared.few_readers;
-      each_client = st.declared.each_client;
-      each_reader = st.declared.each_reader;
-      clients_differ = st.declared.clients_differ;
-      readers_differ = st.declared.readers_differ;
-      apart = st.declared.apart;
-      body = st.items.each_item;
-      phases = let p = st.phases.count_is in let few = st.phases.few in omega arith;
-      gone = st.phases.after;
-      frames = let p = st.played.sum in let few = st.played.frames in omega arith;
-      laps = let p = st.played.sum in let room = st.played.laps in omega arith;
-    })
+ended-is s o script e st = grind (arith, nat_tests)
 
 script_at-is : (r : Result State ScriptError) (script : Script) → script_at r ≡ Ok script → ((s : State) → r ≡ Ok s → IsState s) → IsScript script
 script_at-is (Ok s) script e h = ended-is s s.phase script e (h s refl)

@@ -105,6 +105,25 @@ card_of number words = do
     share = share_given words;
   })
 
+-- the client of this name, file and keys on a card
+abbrev pub client_line : CardLine → ℕ → List ℕ → List ℕ → List (List ℕ) → Result ClientLine ScriptWhy
+client_line card number name file keys = do
+  let lead = number_given (codes "lead") card.period keys
+  fits ← refuse_if (nat_le card.ring lead) why.Fit
+  bindings ← bindings_where card.channels (word_after (codes "bindings") keys)
+  Ok (record {
+    number = number;
+    name = name;
+    file = file;
+    bindings = bindings;
+    buffer = small_where (codes "buffer") keys;
+    period = small_where (codes "period") keys;
+    start = number_given (codes "start") 1 keys;
+    stop = stop_given keys;
+    lead = lead;
+    plug = is_some (word_after (codes "plug") keys);
+  })
+
 -- the client of the words after `client`, on the line of this number
 unfoldable pub client_of : State → ℕ → List (List ℕ) → Result ClientLine ScriptWhy
 client_of s number words = do
@@ -115,21 +134,7 @@ client_of s number words = do
   keys ← keys_from kind.Client [] second.1
   once ← refuse_if (is_some (actor_named s first.0)) why.NameTwice
   room ← refuse_if (nat_le 64 (length s.clients)) why.TooMany
-  let lead = number_given (codes "lead") s.card.period second.1
-  fits ← refuse_if (nat_le s.card.ring lead) why.Fit
-  bindings ← bindings_where s.card.channels (word_after (codes "bindings") second.1)
-  Ok (record {
-    number = number;
-    name = name;
-    file = file;
-    bindings = bindings;
-    buffer = small_where (codes "buffer") second.1;
-    period = small_where (codes "period") second.1;
-    start = number_given (codes "start") 1 second.1;
-    stop = stop_given second.1;
-    lead = lead;
-    plug = is_some (word_after (codes "plug") second.1);
-  })
+  client_line s.card number name file second.1
 
 -- the reader of the words after `reader`, on the line of this number
 unfoldable pub reader_of : State → ℕ → List (List ℕ) → Result ReaderLine ScriptWhy
@@ -149,67 +154,6 @@ reader_of s number words = do
     start = number_given (codes "start") 1 first.1;
     stop = stop_given first.1;
   })
-
--- the keys of a client's line, and whether one more client of this name can be declared
-unfoldable pub client_allowed : State → List ℕ → List (List ℕ) → Result (Unit {0}) ScriptWhy
-client_allowed s word keys = do
-  checked ← keys_from kind.Client [] keys
-  once ← refuse_if (is_some (actor_named s word)) why.NameTwice
-  refuse_if (nat_le 64 (length s.clients)) why.TooMany
-
--- the client of this name, file and keys on a card
-unfoldable pub client_line : CardLine → ℕ → List ℕ → List ℕ → List (List ℕ) → Result ClientLine ScriptWhy
-client_line card number name file keys = do
-  let lead = number_given (codes "lead") card.period keys
-  fits ← refuse_if (nat_le card.ring lead) why.Fit
-  bindings ← bindings_where card.channels (word_after (codes "bindings") keys)
-  Ok (record {
-    number = number;
-    name = name;
-    file = file;
-    bindings = bindings;
-    buffer = small_where (codes "buffer") keys;
-    period = small_where (codes "period") keys;
-    start = number_given (codes "start") 1 keys;
-    stop = stop_given keys;
-    lead = lead;
-    plug = is_some (word_after (codes "plug") keys);
-  })
-
--- the keys of a reader's line, and whether one more reader of this name can be declared
-unfoldable pub reader_allowed : State → List ℕ → List (List ℕ) → Result (Unit {0}) ScriptWhy
-reader_allowed s word keys = do
-  checked ← keys_from kind.Reader [] keys
-  once ← refuse_if (is_some (actor_named s word)) why.NameTwice
-  refuse_if (nat_le 64 (length s.readers)) why.TooMany
-
--- the client of this name, of the words after its name
-unfoldable pub client_named : State → ℕ → List ℕ → List (List ℕ) → Result ClientLine ScriptWhy
-client_named s number name words = do
-  first ← word_and_rest words
-  file ← file_of first.0
-  allowed ← client_allowed s name first.1
-  client_line s.card number name file first.1
-
--- the reader of this name and keys, on a card of so many channels
-unfoldable pub reader_line : ℕ → ℕ → List ℕ → List (List ℕ) → Result ReaderLine ScriptWhy
-reader_line channels number name keys = do
-  bindings ← bindings_where channels (word_after (codes "bindings") keys)
-  Ok (record {
-    number = number;
-    name = name;
-    bindings = bindings;
-    buffer = small_where (codes "buffer") keys;
-    period = small_where (codes "period") keys;
-    start = number_given (codes "start") 1 keys;
-    stop = stop_given keys;
-  })
-
--- the reader of this name, of the words after its name
-unfoldable pub reader_named : State → ℕ → List ℕ → List (List ℕ) → Result ReaderLine ScriptWhy
-reader_named s number name keys = do
-  allowed ← reader_allowed s name keys
-  reader_line s.card.channels number name keys
 
 -- `client NAME FILE KEYS`
 unfoldable pub with_client : State → ℕ → List (List ℕ) → Result State ScriptWhy
@@ -266,14 +210,6 @@ is_beside (first ∷ lines) op = is_unplug first.op || is_unplug op
 -- so many frames from the first lap on don't leave a lap before the ring's last one
 abbrev pub ends_lap : CardLine → ℕ → Bool
 ends_lap card played = nat_lt (4294967295 * card.ring) (card.lap * card.ring + played + card.ring)
-
--- whether the line of a phase is allowed, after which the card plays so many frames
-unfoldable pub line_allowed : State → Actor → Op → ℕ → Result (Unit {0}) ScriptWhy
-line_allowed s actor asked played = do
-  alone ← refuse_if (is_beside s.lines asked) why.Alone
-  plugged ← refuse_if (s.gone && is_of_card actor) why.Unplugged
-  frames ← refuse_if (nat_lt 4194304 played) why.Frames
-  refuse_if (ends_lap s.card played) why.LapEnd
 
 -- `ACTOR OP` in a phase, on the line of this number
 unfoldable pub with_line : State → ℕ → Actor → List (List ℕ) → Result State ScriptWhy

@@ -1,7 +1,7 @@
 //! The lines of clients and readers.
-ghost use Rattle.std.specs.Prelude.{◌≡◌, ◌<◌, IfOk, vec_len};
+ghost use Rattle.std.specs.Prelude.{◌≡◌};
 ghost use Rattle.lab_script.specs.Causes.{Gives};
-ghost use Rattle.lab_script.specs.Draft.{client_of, client_named, client_allowed, client_line, reader_of, reader_named, reader_allowed, reader_line, view};
+ghost use Rattle.lab_script.specs.Draft.{client_line, view, with_client, with_reader};
 ghost use Rattle.text_words.specs.Lexing.{words_between};
 
 use crate::causes::{first_of, refuse_if};
@@ -13,23 +13,7 @@ use crate::values::{bindings_where, number_given, read_file, read_name, small_wh
 use lab_lines::{CardLine, ClientLine, FileName, Name, ReaderLine};
 use std::alloc::Global;
 
-/// Checks the keys of a client's line, and that one more client of this name can be declared.
-#[tactic(auto, unfolding(crate::specs::Draft::client_allowed))]
-fn check_client(alloc: Global, draft: &Draft, word: &[u8], keys: &[u8]) -> Result<(), ScriptWhy>
-    ensures value { Gives (λ u. u) result
-        (client_allowed (view draft.now) word.now (words_between keys.now)) }
-    ensures room { IfOk result (λ u. vec_len draft.now.clients < 64) }
-{
-    check_keys(alloc, Kind::Client, keys)?;
-    refuse_if(named(draft, word).is_some(), ScriptWhy::NameTwice)?;
-    if draft.clients.len() >= 64 {
-        return Err(ScriptWhy::TooMany);
-    }
-    Ok(())
-}
-
 /// The client of this name, file and keys on a card.
-#[tactic(auto, unfolding(crate::specs::Draft::client_line))]
 fn client_line(
     alloc: Global,
     card: &CardLine,
@@ -60,71 +44,53 @@ fn client_line(
     })
 }
 
-/// The client of this name, of what follows the name on its line.
-#[tactic(auto, unfolding(crate::specs::Draft::client_named))]
-fn client_named(
+/// `client NAME FILE KEYS`.
+#[tactic(auto, unfolding(crate::specs::Draft::with_client, crate::specs::Draft::client_of))]
+pub fn add_client(
     alloc: Global,
-    draft: &Draft,
-    number: u32,
-    name: Name,
-    words: &[u8],
-) -> Result<ClientLine, ScriptWhy>
-    ensures value { Gives (λ c. c) result
-        (client_named (view draft.now) number name (words_between words.now)) }
-    ensures room { IfOk result (λ c. vec_len draft.now.clients < 64) }
-{
-    let (path, keys) = first_of(words)?;
-    let file = read_file(alloc, path)?;
-    check_client(alloc, draft, name.as_str().as_bytes(), keys)?;
-    client_line(alloc, &draft.card, number, name, file, keys)
-}
-
-/// The client of what follows `client`, on the line of this number.
-#[tactic(auto, using(crate::proofs::Checks::client_of_steps))]
-pub fn read_client(
-    alloc: Global,
-    draft: &Draft,
+    draft: &mut Draft,
     number: u32,
     words: &[u8],
-) -> Result<ClientLine, ScriptWhy>
-    ensures value { Gives (λ c. c) result
-        (client_of (view draft.now) number (words_between words.now)) }
-    ensures room { IfOk result (λ c. vec_len draft.now.clients < 64) }
+) -> Result<(), ScriptWhy>
+    ensures { Gives (λ u. view draft.new) result
+        (with_client (view draft.old) number (words_between words.now)) }
 {
+    refuse_if(draft.body.len() != 0, ScriptWhy::Order)?;
     let (word, words) = first_of(words)?;
     let name = read_name(alloc, word)?;
-    client_named(alloc, draft, number, name, words)
+    let (path, keys) = first_of(words)?;
+    let file = read_file(alloc, path)?;
+    check_keys(alloc, Kind::Client, keys)?;
+    refuse_if(named(draft, word).is_some(), ScriptWhy::NameTwice)?;
+    if draft.clients.len() >= 64 {
+        return Err(ScriptWhy::TooMany);
+    }
+    let client = client_line(alloc, &draft.card, number, name, file, keys)?;
+    draft.clients.push(client)?;
+    Ok(())
 }
 
-/// Checks the keys of a reader's line, and that one more reader of this name can be declared.
-#[tactic(auto, unfolding(crate::specs::Draft::reader_allowed))]
-fn check_reader(alloc: Global, draft: &Draft, word: &[u8], keys: &[u8]) -> Result<(), ScriptWhy>
-    ensures value { Gives (λ u. u) result
-        (reader_allowed (view draft.now) word.now (words_between keys.now)) }
-    ensures room { IfOk result (λ u. vec_len draft.now.readers < 64) }
+/// `reader NAME KEYS`.
+#[tactic(auto, unfolding(crate::specs::Draft::with_reader, crate::specs::Draft::reader_of))]
+pub fn add_reader(
+    alloc: Global,
+    draft: &mut Draft,
+    number: u32,
+    words: &[u8],
+) -> Result<(), ScriptWhy>
+    ensures { Gives (λ u. view draft.new) result
+        (with_reader (view draft.old) number (words_between words.now)) }
 {
+    refuse_if(draft.body.len() != 0, ScriptWhy::Order)?;
+    let (word, keys) = first_of(words)?;
+    let name = read_name(alloc, word)?;
     check_keys(alloc, Kind::Reader, keys)?;
     refuse_if(named(draft, word).is_some(), ScriptWhy::NameTwice)?;
     if draft.readers.len() >= 64 {
         return Err(ScriptWhy::TooMany);
     }
-    Ok(())
-}
-
-/// The reader of this name and keys, on a card of so many channels.
-#[tactic(auto, unfolding(crate::specs::Draft::reader_line))]
-fn reader_line(
-    alloc: Global,
-    channels: u8,
-    number: u32,
-    name: Name,
-    keys: &[u8],
-) -> Result<ReaderLine, ScriptWhy>
-    ensures { Gives (λ r. r) result
-        (reader_line channels number name (words_between keys.now)) }
-{
-    let bindings = bindings_where(alloc, channels, given(b"bindings", keys))?;
-    Ok(ReaderLine {
+    let bindings = bindings_where(alloc, draft.card.channels, given(b"bindings", keys))?;
+    draft.readers.push(ReaderLine {
         number,
         name,
         bindings,
@@ -132,39 +98,6 @@ fn reader_line(
         period: small_where(b"period", keys),
         start: number_given(b"start", 1, keys),
         stop: stop_given(keys),
-    })
-}
-
-/// The reader of this name, of what follows the name on its line.
-#[tactic(auto, unfolding(crate::specs::Draft::reader_named))]
-fn reader_named(
-    alloc: Global,
-    draft: &Draft,
-    number: u32,
-    name: Name,
-    keys: &[u8],
-) -> Result<ReaderLine, ScriptWhy>
-    ensures value { Gives (λ r. r) result
-        (reader_named (view draft.now) number name (words_between keys.now)) }
-    ensures room { IfOk result (λ r. vec_len draft.now.readers < 64) }
-{
-    check_reader(alloc, draft, name.as_str().as_bytes(), keys)?;
-    reader_line(alloc, draft.card.channels, number, name, keys)
-}
-
-/// The reader of what follows `reader`, on the line of this number.
-#[tactic(auto, using(crate::proofs::Checks::reader_of_steps))]
-pub fn read_reader(
-    alloc: Global,
-    draft: &Draft,
-    number: u32,
-    words: &[u8],
-) -> Result<ReaderLine, ScriptWhy>
-    ensures value { Gives (λ r. r) result
-        (reader_of (view draft.now) number (words_between words.now)) }
-    ensures room { IfOk result (λ r. vec_len draft.now.readers < 64) }
-{
-    let (word, keys) = first_of(words)?;
-    let name = read_name(alloc, word)?;
-    reader_named(alloc, draft, number, name, keys)
+    })?;
+    Ok(())
 }

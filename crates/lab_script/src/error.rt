@@ -1,6 +1,6 @@
 //! Why a script is refused.
 ghost use Rattle.std.specs.Prelude.{◌≡◌, Some};
-ghost use Rattle.lab_script.specs.ErrorText.{error_text, why_name, why_number, why_text};
+ghost use Rattle.lab_script.specs.ErrorText.{error_text, why_name, why_text};
 
 use std::alloc::{AllocError, AllocFailed};
 use std::fmt;
@@ -91,16 +91,6 @@ impl ScriptWhy {
             ScriptWhy::Memory => "Memory",
         }
     }
-
-    /// Its number, where it has one.
-    fn number(&self) -> Option<u32>
-        ensures { result ≡ why_number self.now }
-    {
-        match self {
-            ScriptWhy::BindingRange(number) | ScriptWhy::BindingTwice(number) => Some(*number),
-            _ => None,
-        }
-    }
 }
 
 impl fmt::Debug for ScriptWhy {
@@ -119,9 +109,11 @@ impl fmt::Display for ScriptWhy {
 
     fn fmt<W: fmt::Write>(&self, f: &mut fmt::Formatter<W>) -> fmt::Result {
         f.write_str(self.name())?;
-        match self.number() {
-            Some(number) => write!(f, " {number}"),
-            None => Ok(()),
+        match self {
+            ScriptWhy::BindingRange(number) | ScriptWhy::BindingTwice(number) => {
+                write!(f, " {number}")
+            }
+            _ => Ok(()),
         }
     }
 }

@@ -4,7 +4,7 @@ ghost use Rattle.lab_script.specs.Causes.{Gives};
 ghost use Rattle.text_words.specs.Table.{row_of};
 ghost use Rattle.text_words.specs.Lexing.{words_between};
 ghost use Rattle.lab_lines.specs.Script.{played_by};
-ghost use Rattle.lab_script.specs.Ops.{ops_of, with_count, op_with, op_of, op_word, op_count, count_text, op_text};
+ghost use Rattle.lab_script.specs.Ops.{ops_of, with_count, op_with, op_of, op_word, op_count, op_text};
 
 use crate::causes::{end_of, first_of};
 use crate::error::ScriptWhy;
@@ -164,16 +164,6 @@ fn op_count(op: Op) -> Option<u32>
     }
 }
 
-/// Appends a space and a number to a text, where there is one.
-fn push_count(count: Option<u32>, text: &mut String) -> Result<(), AllocError>
-    ensures { OnOk result (string_bytes text.new ≡ string_bytes text.old ++ count_text count) }
-{
-    match count {
-        Some(n) => write!(text, " {n}"),
-        None => Ok(()),
-    }
-}
-
 /// Appends the words of an op to a text, as a script has them.
 ///
 /// The one error is that memory ran out.
@@ -182,7 +172,10 @@ pub fn push_op(op: Op, text: &mut String) -> Result<(), AllocError>
     ensures { OnOk result (string_bytes text.new ≡ string_bytes text.old ++ op_text op) }
 {
     text.push_str(op_word(op))?;
-    push_count(op_count(op), text)
+    match op_count(op) {
+        Some(n) => write!(text, " {n}"),
+        None => Ok(()),
+    }
 }
 
 /// Appends the words of an op to the bytes of a text, as a script has them.

@@ -4,7 +4,7 @@ ghost use Rattle.lab_script.specs.Causes.{Gives};
 ghost use Rattle.lab_script.specs.Draft.{view, card_alone};
 ghost use Rattle.text_words.specs.Lexing.{words_between, lines_from};
 ghost use Rattle.lab_lines.specs.Limits.{IsScript};
-ghost use Rattle.lab_script.specs.Reading.{card_line, after, script_at_end, script_at, script_of, script_of_lines, Answers};
+ghost use Rattle.lab_script.specs.Reading.{card_line, after, script_of, script_of_lines, Answers};
 
 use crate::card::read_card;
 use crate::draft::Draft;
@@ -29,11 +29,12 @@ fn card_line(alloc: Global, number: u32, words: &[u8]) -> Result<CardLine, Scrip
     }
 }
 
-/// What is read of a script after the card's line.
-fn begin(alloc: Global, card: CardLine) -> Draft
-    ensures { view result ≡ card_alone card }
+/// The lines after the card's, of which the first has this number.
+fn read_lines(alloc: Global, card: CardLine, number: u32, text: &[u8]) -> Result<Draft, ScriptError>
+    requires { number + length text.now < 2 ^ 32 }
+    ensures { Answers view result (after (card_alone card) (lines_from number text.now)) }
 {
-    Draft {
+    let mut draft = Draft {
         card,
         clients: Vec::new(alloc),
         readers: Vec::new(alloc),
@@ -43,15 +44,7 @@ fn begin(alloc: Global, card: CardLine) -> Draft
         phases: 0,
         played: 0,
         gone: false,
-    }
-}
-
-/// The lines after the card's, of which the first has this number.
-fn read_lines(alloc: Global, card: CardLine, number: u32, text: &[u8]) -> Result<Draft, ScriptError>
-    requires { number + length text.now < 2 ^ 32 }
-    ensures { Answers view result (after (card_alone card) (lines_from number text.now)) }
-{
-    let mut draft = begin(alloc, card);
+    };
     let mut number = number;
     let mut rest = text;
     while let Some(line) = next_line(number, rest) {
@@ -70,24 +63,6 @@ fn read_lines(alloc: Global, card: CardLine, number: u32, text: &[u8]) -> Result
     Ok(draft)
 }
 
-/// The script at the end of its text.
-fn ended(draft: Draft) -> Result<Script, ScriptError>
-    ensures { result ≡ script_at_end (view draft) draft.phase }
-{
-    match draft.phase {
-        Some(line) => Err(ScriptError {
-            line,
-            why: ScriptWhy::Unended,
-        }),
-        None => Ok(Script {
-            card: draft.card,
-            clients: Clients::from_vec(draft.clients),
-            readers: Readers::from_vec(draft.readers),
-            body: Body::from_vec(draft.body),
-        }),
-    }
-}
-
 /// The script of a text that isn't too long.
 fn read_whole(alloc: Global, text: &[u8]) -> Result<Script, ScriptError>
     requires { length text.now ≤ 1048576 }
@@ -99,14 +74,26 @@ fn read_whole(alloc: Global, text: &[u8]) -> Result<Script, ScriptError>
             why: ScriptWhy::NoCard,
         });
     };
-    match card_line(alloc, line.number, line.words) {
-        Ok(card) => {
-            let draft = read_lines(alloc, card, line.number + 1, line.rest)?;
-            ended(draft)
+    let card = match card_line(alloc, line.number, line.words) {
+        Ok(card) => card,
+        Err(why) => {
+            return Err(ScriptError {
+                line: line.number,
+                why,
+            });
         }
-        Err(why) => Err(ScriptError {
-            line: line.number,
-            why,
+    };
+    let draft = read_lines(alloc, card, line.number + 1, line.rest)?;
+    match draft.phase {
+        Some(line) => Err(ScriptError {
+            line,
+            why: ScriptWhy::Unended,
+        }),
+        None => Ok(Script {
+            card: draft.card,
+            clients: Clients::from_vec(draft.clients),
+            readers: Readers::from_vec(draft.readers),
+            body: Body::from_vec(draft.body),
         }),
     }
 }

@@ -1,14 +1,14 @@
 //! What one more line makes of a script that is read as far as that line.
-ghost use Rattle.std.specs.Prelude.{◌≡◌, ◌≤◌, IfOk};
+ghost use Rattle.std.specs.Prelude.{◌≡◌, ◌≤◌};
 ghost use Rattle.lab_script.specs.Causes.{Gives};
-ghost use Rattle.lab_script.specs.Draft.{view, with_client, with_reader, border_of, with_open, with_close, with_phase, with_end, line_allowed, with_line, with_words, outside, inside, is_beside, ends_lap};
+ghost use Rattle.lab_script.specs.Draft.{view, border_of, with_phase, with_line, with_words, outside, inside, is_beside, ends_lap};
 ghost use Rattle.text_words.specs.Table.{row_of};
 ghost use Rattle.lab_script.specs.Draft.{keywords};
 ghost use Rattle.lab_lines.specs.Script.{is_of_card, is_unplug};
 ghost use Rattle.text_words.specs.Lexing.{words_between};
 
 use crate::causes::{end_of, first_of, refuse_if};
-use crate::client::{read_client, read_reader};
+use crate::client::{add_client, add_reader};
 use crate::draft::Draft;
 use crate::error::ScriptWhy;
 use crate::keyword::{Keyword, keyword_of};
@@ -18,30 +18,6 @@ use lab_lines::{Actor, CardLine, Item, Line, Op, Phase};
 use std::alloc::Global;
 use std::mem;
 use text_words::next_word;
-
-/// `client NAME FILE KEYS`.
-#[tactic(auto, unfolding(crate::specs::Draft::with_client))]
-fn add_client(alloc: Global, draft: &mut Draft, number: u32, words: &[u8]) -> Result<(), ScriptWhy>
-    ensures { Gives (λ u. view draft.new) result
-        (with_client (view draft.old) number (words_between words.now)) }
-{
-    refuse_if(draft.body.len() != 0, ScriptWhy::Order)?;
-    let client = read_client(alloc, draft, number, words)?;
-    draft.clients.push(client)?;
-    Ok(())
-}
-
-/// `reader NAME KEYS`.
-#[tactic(auto, unfolding(crate::specs::Draft::with_reader))]
-fn add_reader(alloc: Global, draft: &mut Draft, number: u32, words: &[u8]) -> Result<(), ScriptWhy>
-    ensures { Gives (λ u. view draft.new) result
-        (with_reader (view draft.old) number (words_between words.now)) }
-{
-    refuse_if(draft.body.len() != 0, ScriptWhy::Order)?;
-    let reader = read_reader(alloc, draft, number, words)?;
-    draft.readers.push(reader)?;
-    Ok(())
-}
 
 /// The actor of a line `open NAME` or `close NAME`.
 #[tactic(auto, unfolding(crate::specs::Draft::border_of))]
@@ -58,28 +34,6 @@ fn border_actor(draft: &Draft, words: &[u8]) -> Result<Actor, ScriptWhy>
     }
 }
 
-/// `open NAME`.
-#[tactic(auto, unfolding(crate::specs::Draft::with_open))]
-fn add_open(draft: &mut Draft, number: u32, words: &[u8]) -> Result<(), ScriptWhy>
-    ensures { Gives (λ u. view draft.new) result
-        (with_open (view draft.old) number (words_between words.now)) }
-{
-    let actor = border_actor(draft, words)?;
-    draft.body.push(Item::Opens { number, actor })?;
-    Ok(())
-}
-
-/// `close NAME`.
-#[tactic(auto, unfolding(crate::specs::Draft::with_close))]
-fn add_close(draft: &mut Draft, number: u32, words: &[u8]) -> Result<(), ScriptWhy>
-    ensures { Gives (λ u. view draft.new) result
-        (with_close (view draft.old) number (words_between words.now)) }
-{
-    let actor = border_actor(draft, words)?;
-    draft.body.push(Item::Closes { number, actor })?;
-    Ok(())
-}
-
 /// `phase`.
 #[tactic(auto, unfolding(crate::specs::Draft::with_phase))]
 fn begin_phase(draft: &mut Draft, number: u32, words: &[u8]) -> Result<(), ScriptWhy>
@@ -92,19 +46,6 @@ fn begin_phase(draft: &mut Draft, number: u32, words: &[u8]) -> Result<(), Scrip
     }
     draft.phase = Some(number);
     draft.phases += 1;
-    Ok(())
-}
-
-/// `end`.
-#[tactic(auto, unfolding(crate::specs::Draft::with_end))]
-fn end_phase(alloc: Global, draft: &mut Draft, words: &[u8]) -> Result<(), ScriptWhy>
-    ensures { Gives (λ u. view draft.new) result
-        (with_end (view draft.old) (words_between words.now)) }
-{
-    end_of(words)?;
-    let lines = mem::replace(&mut draft.lines, Vec::new(alloc));
-    draft.body.push(Item::Phase(Phase::from_vec(lines)))?;
-    draft.phase = None;
     Ok(())
 }
 
@@ -142,29 +83,20 @@ fn ends_lap(card: &CardLine, played: u64) -> bool
     4_294_967_295 * ring < first + played + ring
 }
 
-/// Checks that a line of a phase is allowed, after which the card plays so many frames.
-#[tactic(auto, unfolding(crate::specs::Draft::line_allowed))]
-fn check_line(draft: &Draft, actor: Actor, op: Op, played: u64) -> Result<(), ScriptWhy>
-    ensures value { Gives (λ u. u) result (line_allowed (view draft.now) actor op played) }
-    ensures frames { IfOk result (λ u. played ≤ 4194304) }
-{
-    refuse_if(is_beside(draft.lines.as_slice(), op), ScriptWhy::Alone)?;
-    refuse_if(draft.gone && is_of_card(actor), ScriptWhy::Unplugged)?;
-    if played > 4_194_304 {
-        return Err(ScriptWhy::Frames);
-    }
-    refuse_if(ends_lap(&draft.card, played), ScriptWhy::LapEnd)
-}
-
 /// `ACTOR OP`, in a phase.
-#[tactic(auto, using(crate::proofs::Checks::with_line_steps))]
+#[tactic(auto, unfolding(crate::specs::Draft::with_line))]
 fn add_line(draft: &mut Draft, number: u32, actor: Actor, words: &[u8]) -> Result<(), ScriptWhy>
     ensures { Gives (λ u. view draft.new) result
         (with_line (view draft.old) number actor (words_between words.now)) }
 {
     let op = op_of(actor, words)?;
     let played = u64::from(draft.played) + u64::from(played_by(op));
-    check_line(draft, actor, op, played)?;
+    refuse_if(is_beside(draft.lines.as_slice(), op), ScriptWhy::Alone)?;
+    refuse_if(draft.gone && is_of_card(actor), ScriptWhy::Unplugged)?;
+    if played > 4_194_304 {
+        return Err(ScriptWhy::Frames);
+    }
+    refuse_if(ends_lap(&draft.card, played), ScriptWhy::LapEnd)?;
     draft.lines.push(Line { number, actor, op })?;
     draft.played = played as u32;
     draft.gone = draft.gone || is_unplug(op);
@@ -172,6 +104,7 @@ fn add_line(draft: &mut Draft, number: u32, actor: Actor, words: &[u8]) -> Resul
 }
 
 /// A line outside phases.
+#[tactic(auto, unfolding(crate::specs::Draft::with_open, crate::specs::Draft::with_close))]
 fn outside(
     alloc: Global,
     draft: &mut Draft,
@@ -186,8 +119,16 @@ fn outside(
     match keyword_of(word) {
         Some(Keyword::Client) => add_client(alloc, draft, number, words),
         Some(Keyword::Reader) => add_reader(alloc, draft, number, words),
-        Some(Keyword::Open) => add_open(draft, number, words),
-        Some(Keyword::Close) => add_close(draft, number, words),
+        Some(Keyword::Open) => {
+            let actor = border_actor(draft, words)?;
+            draft.body.push(Item::Opens { number, actor })?;
+            Ok(())
+        }
+        Some(Keyword::Close) => {
+            let actor = border_actor(draft, words)?;
+            draft.body.push(Item::Closes { number, actor })?;
+            Ok(())
+        }
         Some(Keyword::Phase) => begin_phase(draft, number, words),
         Some(Keyword::Card | Keyword::End) => Err(ScriptWhy::Order),
         None => match named(draft, word) {
@@ -198,6 +139,7 @@ fn outside(
 }
 
 /// A line of a phase.
+#[tactic(auto, unfolding(crate::specs::Draft::with_end))]
 fn inside(
     alloc: Global,
     draft: &mut Draft,
@@ -211,7 +153,13 @@ fn inside(
 {
     match keyword_of(word) {
         Some(Keyword::Card) => add_line(draft, number, Actor::Card, words),
-        Some(Keyword::End) => end_phase(alloc, draft, words),
+        Some(Keyword::End) => {
+            end_of(words)?;
+            let lines = mem::replace(&mut draft.lines, Vec::new(alloc));
+            draft.body.push(Item::Phase(Phase::from_vec(lines)))?;
+            draft.phase = None;
+            Ok(())
+        }
         Some(_) => Err(ScriptWhy::Order),
         None => match named(draft, word) {
             Some(actor) => add_line(draft, number, actor, words),

@@ -2,7 +2,7 @@
 ghost use Rattle.std.specs.Prelude.{◌≡◌, ◌≤◌, ◌<◌, [], IfOk, IsAscii, length, option_map, string_bytes};
 ghost use Rattle.std.specs.Option.{option_map_or};
 ghost use Rattle.lab_script.specs.Causes.{Gives};
-ghost use Rattle.lab_script.specs.Keys.{number_in, numbers_of, name_of, file_of, value_of, word_after, number_or_zero, number_given, number_within, byte_given, small_given, small_where, stop_of, stop_given, share_named, share_given, file_where, bindings_where, why_of};
+ghost use Rattle.lab_script.specs.Keys.{number_in, numbers_of, name_of, file_of, value_of, word_after, number_or_zero, number_given, number_within, byte_given, small_given, small_where, stop_given, share_named, share_given, file_where, bindings_where, why_of};
 ghost use Rattle.lab_script.specs.declared.keys.Takes.TheVariants as takes;
 ghost use Rattle.text_words.specs.Lexing.{words_between};
 ghost use Rattle.text_words.specs.Word.{parts_of};
@@ -76,17 +76,6 @@ pub fn read_file(alloc: Global, word: &[u8]) -> Result<FileName, ScriptWhy>
     Ok(FileName::from_text(text_of(alloc, word)?))
 }
 
-/// A word that must be `never` or a number from least to most.
-fn check_number_or_never(least: u64, most: u64, word: &[u8]) -> Result<(), ScriptWhy>
-    ensures { result ≡ value_of (takes.NumberOrNever least most) word.now }
-{
-    if word == b"never".as_slice() {
-        return Ok(());
-    }
-    number_in(least, most, word)?;
-    Ok(())
-}
-
 /// A word that must be a number from least to most.
 fn check_number(least: u64, most: u64, word: &[u8]) -> Result<(), ScriptWhy>
     ensures { result ≡ value_of (takes.Number least most) word.now }
@@ -95,34 +84,29 @@ fn check_number(least: u64, most: u64, word: &[u8]) -> Result<(), ScriptWhy>
     Ok(())
 }
 
-/// A word that must be numbers of channels, joined by commas.
-fn check_numbers(alloc: Global, word: &[u8]) -> Result<(), ScriptWhy>
-    ensures { Gives (λ u. u) result (value_of takes.Bindings word.now) }
-{
-    read_numbers(alloc, word)?;
-    Ok(())
-}
-
-/// A word that must be `dmix` or `dshare`.
-fn check_share(word: &[u8]) -> Result<(), ScriptWhy>
-    ensures { result ≡ value_of takes.Share word.now }
-{
-    if word == b"dmix".as_slice() {
-        return Ok(());
-    }
-    refuse_if(word != b"dshare".as_slice(), ScriptWhy::Word)
-}
-
 /// Whether a word can follow a key that takes this.
 pub fn check_value(alloc: Global, takes: Takes, word: &[u8]) -> Result<(), ScriptWhy>
     ensures { Gives (λ u. u) result (value_of takes word.now) }
 {
     match takes {
         Takes::Number(least, most) => check_number(least, most, word),
-        Takes::NumberOrNever(least, most) => check_number_or_never(least, most, word),
+        Takes::NumberOrNever(least, most) => {
+            if word == b"never".as_slice() {
+                return Ok(());
+            }
+            check_number(least, most, word)
+        }
         Takes::File => refuse_if(!is_file(word), ScriptWhy::File),
-        Takes::Bindings => check_numbers(alloc, word),
-        Takes::Share => check_share(word),
+        Takes::Bindings => {
+            read_numbers(alloc, word)?;
+            Ok(())
+        }
+        Takes::Share => {
+            if word == b"dmix".as_slice() {
+                return Ok(());
+            }
+            refuse_if(word != b"dshare".as_slice(), ScriptWhy::Word)
+        }
         Takes::Plug => refuse_if(word != b"linear".as_slice(), ScriptWhy::Word),
     }
 }
@@ -154,13 +138,6 @@ fn in_32_bits(n: u64) -> u32
     if n <= 4_294_967_295 { n as u32 } else { 0 }
 }
 
-/// A number, or 0 where it is above 255.
-fn in_8_bits(n: u64) -> u8
-    ensures { result ≡ number_within 255 n }
-{
-    if n <= 255 { n as u8 } else { 0 }
-}
-
 /// The number after a key, where it is given.
 pub fn small_where(key: &[u8], words: &[u8]) -> Option<u32>
     ensures { result ≡ small_where key.now (words_between words.now) }
@@ -180,18 +157,8 @@ pub fn small_given(key: &[u8], otherwise: u32, words: &[u8]) -> u32
 pub fn byte_given(key: &[u8], otherwise: u8, words: &[u8]) -> u8
     ensures { result ≡ byte_given key.now otherwise (words_between words.now) }
 {
-    in_8_bits(number_given(key, u64::from(otherwise), words))
-}
-
-/// The word after `stop`.
-fn stop_of(word: &[u8]) -> Stop
-    ensures { result ≡ stop_of word.now }
-{
-    if word == b"never".as_slice() {
-        Stop::Never
-    } else {
-        Stop::At(number_or_zero(word))
-    }
+    let n = number_given(key, u64::from(otherwise), words);
+    if n <= 255 { n as u8 } else { 0 }
 }
 
 /// The stop threshold, where it is given.
@@ -199,7 +166,10 @@ pub fn stop_given(words: &[u8]) -> Option<Stop>
     ensures { result ≡ stop_given (words_between words.now) }
 {
     let word = given(b"stop", words)?;
-    Some(stop_of(word))
+    if word == b"never".as_slice() {
+        return Some(Stop::Never);
+    }
+    Some(Stop::At(number_or_zero(word)))
 }
 
 /// How clients share the card.

@@ -1,7 +1,7 @@
 -- How output frames are appended.
-use Rattle.plug_chain.specs.Prelude.{ap, append_assoc, arith, get_or, length, length-append, List, pos, refl, suc, sym, take, zero, ℕ, ℤ, [], ◌*◌, ◌++◌, ◌+◌}
-use Rattle.plug_chain.specs.Prelude.{◌-◌, ◌<◌, ◌∙◌, ◌∷◌, ◌≡◌, ◌≤◌, get_or-append_seam, append-nil, slice_index_or, Course, IsAdvance, Appends, Extends}
-use Rattle.plug_chain.specs.Prelude.{samples_of, AreRates, IsRateAt, IsUnderway, known_count, known_samples, output_count, output_frame, output_frames}
+use Rattle.plug_chain.specs.Prelude.{ap, append_assoc, arith, get_or, length, length-append, List, pos, refl, suc, sym, take, ℕ, ℤ, [], ◌*◌, ◌++◌, ◌+◌, ◌-◌}
+use Rattle.plug_chain.specs.Prelude.{◌<◌, ◌∙◌, ◌∷◌, ◌≡◌, ◌≤◌, get_or-append_seam, append-nil, take_at, take_more, slice_index_or, Course, IsAdvance, Appends}
+use Rattle.plug_chain.specs.Prelude.{Extends, samples_of, AreRates, IsRateAt, IsUnderway, known_count, known_samples, output_count, output_frame, output_frames}
 use Rattle.plug_chain.specs.Prelude.{RatePair, resampled_samples, silence}
 use Rattle.plug_chain.proofs.Places.{known_count-is, output_count-is, output_frame-known}
 use Rattle.plug_chain.proofs.Ranges.{flat_map-range_add, flat_map-range_one, flat_map-range_same}
@@ -17,9 +17,6 @@ Extends-more old mid new xs grows is = record { more = grows.more ++ xs; new_is 
 pub Extends-trans : (old mid new : List ℤ) → Extends old mid → Extends mid new → Extends old new
 Extends-trans old mid new first second = Extends-more old mid new second.more first second.new_is
 
-pub Appends-none : (known old : List ℤ) → Appends known known old old
-Appends-none known old = record { more = []; longer_is = sym (append-nil known); new_is = sym (append-nil old) }
-
 pub Appends-trans : (a b c old mid new : List ℤ) → Appends a b old mid → Appends b c mid new → Appends a c old new
 Appends-trans a b c old mid new first second = record {
   more = first.more ++ second.more;
@@ -32,10 +29,6 @@ Appends-trans a b c old mid new first second = record {
 output_frames-add : (r : RatePair) (frames : List (List ℤ)) (m k : ℕ) → output_frames r frames 0 (m + k) ≡ output_frames r frames 0 m ++ output_frames r frames m k
 unfolding output_frames
 output_frames-add r frames m k = flat_map-range_add (output_frame r frames) 0 m k (m + k) m refl (omega arith)
-
-output_frames-none : (r : RatePair) (frames : List (List ℤ)) (m : ℕ) → output_frames r frames m 0 ≡ []
-unfolding output_frames
-output_frames-none r frames m = refl
 
 output_frames-more : (r : RatePair) (frames : List (List ℤ)) (m k : ℕ) → output_frames r frames m (k + 1) ≡ output_frames r frames m k ++ output_frame r frames (m + k)
 unfolding output_frames
@@ -54,9 +47,10 @@ output_frames-known r frames x rates =
 
 pub IsUnderway-start : (r : RatePair) (channels : ℕ) (frames all : List (List ℤ)) (last : List ℤ) (place : ℕ) (old : List ℤ) → IsRateAt r channels frames last place
     → IsUnderway r all (length frames) place old old
+unfolding output_frames
 IsUnderway-start r channels frames all last place old at = record {
   count = 0;
-  new_is = sym (ap (λ xs. old ++ xs) (output_frames-none r all (known_count r (length frames))) ∙ append-nil old);
+  new_is = sym (append-nil old);
   place_is = omega (arith, at.place_is);
 }
 
@@ -66,10 +60,8 @@ pub IsUnderway-more : (r : RatePair) (all : List (List ℤ)) (before place next 
     → IsUnderway r all before next old new
 IsUnderway-more r all before place next old mid new frame underway is grown moved = record {
   count = underway.count + 1;
-  new_is = grown ∙ (ap (λ xs. xs ++ frame) underway.new_is
-      ∙ (append_assoc old (output_frames r all (known_count r before) underway.count) frame
-      ∙ ap (λ xs. old ++ xs) (ap (λ xs. output_frames r all (known_count r before) underway.count ++ xs) (sym (is (known_count r before + underway.count) underway.place_is))
-      ∙ sym (output_frames-more r all (known_count r before) underway.count))));
+  new_is = rw (grown, underway.new_is, output_frames-more r all (known_count r before) underway.count, is (known_count r before + underway.count) underway.place_is)
+      (append_assoc old (output_frames r all (known_count r before) underway.count) frame);
   place_is = omega (arith, underway.place_is, moved);
 }
 
@@ -110,11 +102,7 @@ Appends-end r frames place old new rates underway past near =
       new_is = underway.new_is;
     }
 
--- no frame more, and some frames more after others
-pub IsAdvance-none : (r : RatePair) (channels : ℕ) (frames : List (List ℤ)) (course : Course) (old : List ℤ) → IsRateAt r channels frames (samples_of course.last) course.place
-    → IsAdvance r channels frames frames course old old
-IsAdvance-none r channels frames course old at = record { at = at; appends = Appends-none (known_samples r frames) old }
-
+-- some frames more after others
 pub IsAdvance-trans : (r : RatePair) (channels : ℕ) (a b c : List (List ℤ)) (start course : Course) (old mid new : List ℤ) → IsAdvance r channels a b start old mid → IsAdvance r channels b c course mid new
     → IsAdvance r channels a c course old new
 IsAdvance-trans r channels a b c start course old mid new first second = record {
@@ -123,22 +111,11 @@ IsAdvance-trans r channels a b c start course old mid new first second = record 
 }
 
 -- what is taken of a list that grew, as much as it had, is the list
-take-front : (old more : List ℤ) → take (length old) (old ++ more) ≡ old
-take-front [] more = refl
-take-front (x ∷ old) more = ap (λ (xs : List ℤ). x ∷ xs) (take-front old more)
-
 pub Extends-cut : (old mid new : List ℤ) (n : ℕ) → Extends old mid → n ≡ length old → new ≡ take n mid → new ≡ old
 Extends-cut old mid new n grows is cut =
-    cut ∙ (ap (λ (k : ℕ). take k mid) is ∙ (ap (λ (xs : List ℤ). take (length old) xs) grows.new_is ∙ take-front old grows.more))
+    cut ∙ (ap (λ (k : ℕ). take k mid) is ∙ (ap (λ (xs : List ℤ). take (length old) xs) grows.new_is ∙ take_at old grows.more (length old) refl))
 
 -- one sample more is taken
-take-next : (xs : List ℤ) (i : ℕ) → i < length xs → take i xs ++ get_or xs i (pos 0) ∷ [] ≡ take (suc i) xs
-take-next [] i within = absurd (omega (arith, within))
-take-next (x ∷ xs) zero within = refl
-take-next (x ∷ xs) (suc i) within = ap (λ (ys : List ℤ). x ∷ ys) (take-next xs i (omega (arith, within)))
-
 pub taken-next : (old mid new xs : List ℤ) (i : ℕ) (z : ℤ) → i < length xs → mid ≡ old ++ take i xs → new ≡ mid ++ z ∷ [] → z ≡ get_or xs i (pos 0) → new ≡ old ++ take (i + 1) xs
 taken-next old mid new xs i z within so_far grown is =
-    let next : suc i ≡ i + 1 = omega arith in
-    grown ∙ (ap (λ (ys : List ℤ). ys ++ z ∷ []) so_far ∙ (ap (λ (y : ℤ). (old ++ take i xs) ++ y ∷ []) is
-    ∙ (append_assoc old (take i xs) (get_or xs i (pos 0) ∷ []) ∙ (ap (λ (ys : List ℤ). old ++ ys) (take-next xs i within) ∙ ap (λ (k : ℕ). old ++ take k xs) next))))
+    rw (grown, so_far, is, take_more xs i (pos 0) within, append_assoc old (take i xs) (get_or xs i (pos 0) ∷ [])) refl

@@ -38,58 +38,35 @@ pub length-rest_of : (c : Conversion) (bytes : List ℕ) → 1 ≤ frame_bytes c
 unfolding rest_of
 length-rest_of c bytes some = omega (arith, length-drop (frame_count c bytes * frame_bytes c) bytes, div-add-mod' (length bytes) (frame_bytes c), mod_below (length bytes) (frame_bytes c) some)
 
--- bytes with no whole frame, and with one
-short_by : (c : Conversion) (bytes : List ℕ) → 1 ≤ frame_bytes c → frame_count c bytes ≡ 0 → length bytes < frame_bytes c
-short_by c bytes some none = elim (cases_lt (length bytes) (frame_bytes c)) [
-  | inl short ↦ short
-  | inr enough ↦ absurd (omega (arith, none, frame_count-more c bytes some enough))
+-- two pieces give the frames of the first, and those of its rest and the second; and so they leave what these do
+pub record AreJoined (c : Conversion) (a b : List ℕ) : Type 0 where
+  pub frames : frames_of_bytes c (a ++ b) ≡ frames_of_bytes c a ++ frames_of_bytes c (rest_of c a ++ b)
+  pub rest : rest_of c (a ++ b) ≡ rest_of c (rest_of c a ++ b)
+
+joined-short : (c : Conversion) (a b : List ℕ) → length a < frame_bytes c → AreJoined c a b
+joined-short c a b short = record { frames = rw (frames_of_bytes-short c a short, rest_of-short c a short) refl; rest = rw (rest_of-short c a short) refl }
+
+joined_by : (n : ℕ) (c : Conversion) (a b : List ℕ) → 1 ≤ frame_bytes c → length a ≤ n → AreJoined c a b
+joined_by zero c a b some most = joined-short c a b (omega arith)
+joined_by (suc n) c a b some most = elim (cases_lt (length a) (frame_bytes c)) [
+  | inl short ↦ joined-short c a b short
+  | inr enough ↦
+      let more : frame_bytes c ≤ length (a ++ b) = omega (arith, length-append a b) in
+      let back = drop-append-le (frame_bytes c) a b enough in
+      let again = joined_by n c (drop (frame_bytes c) a) b some (omega (arith, length-drop (frame_bytes c) a)) in
+      record {
+        frames = rw (
+          frames_of_bytes-more c (a ++ b) some more,
+          take-append-le (frame_bytes c) a b enough,
+          back,
+          frames_of_bytes-more c a some enough,
+          rest_of-more c a
+              some enough,
+          again.frames,
+        ) refl;
+        rest = rw (rest_of-more c (a ++ b) some more, back, rest_of-more c a some enough) again.rest;
+      }
 ]
 
-enough_by : (c : Conversion) (bytes : List ℕ) (n : ℕ) → frame_count c bytes ≡ suc n → frame_bytes c ≤ length bytes
-enough_by c bytes n one = elim (cases_lt (length bytes) (frame_bytes c)) [
-  | inl short ↦ absurd (omega (arith, one, frame_count-short c bytes short))
-  | inr enough ↦ enough
-]
-
--- the first frame of two pieces is the first piece's, where that has one
-pub frames_of_bytes-front : (c : Conversion) (a b : List ℕ) → 1 ≤ frame_bytes c → frame_bytes c ≤ length a
-    → frames_of_bytes c (a ++ b) ≡ frame_from_bytes c (take (frame_bytes c) a) ∷ frames_of_bytes c (drop (frame_bytes c) a ++ b)
-frames_of_bytes-front c a b some enough =
-    let more : frame_bytes c ≤ length (a ++ b) = omega (arith, length-append a b) in
-    frames_of_bytes-more c (a ++ b) some more
-    ∙ (ap (λ x. frame_from_bytes c x ∷ frames_of_bytes c (drop (frame_bytes c) (a ++ b))) (take-append-le (frame_bytes c) a b enough)
-    ∙ ap (λ x. frame_from_bytes c (take (frame_bytes c) a) ∷ frames_of_bytes c x) (drop-append-le (frame_bytes c) a b enough))
-
-pub rest_of-front : (c : Conversion) (a b : List ℕ) → 1 ≤ frame_bytes c → frame_bytes c ≤ length a → rest_of c (a ++ b) ≡ rest_of c (drop (frame_bytes c) a ++ b)
-rest_of-front c a b some enough =
-    let more : frame_bytes c ≤ length (a ++ b) = omega (arith, length-append a b) in
-    rest_of-more c (a ++ b) some more ∙ ap (rest_of c) (drop-append-le (frame_bytes c) a b enough)
-
--- frames of two pieces
-frames_of_bytes-append_by : (n : ℕ) (c : Conversion) (a b : List ℕ) → 1 ≤ frame_bytes c → frame_count c a ≡ n → frames_of_bytes c (a ++ b) ≡ frames_of_bytes c a ++ frames_of_bytes c (rest_of c a ++ b)
-frames_of_bytes-append_by zero c a b some none =
-    let short : length a < frame_bytes c = short_by c a some none in
-    ap (λ x. frames_of_bytes c (x ++ b)) (sym (rest_of-short c a short)) ∙ ap (λ xs. xs ++ frames_of_bytes c (rest_of c a ++ b)) (sym (frames_of_bytes-short c a short))
-frames_of_bytes-append_by (suc n) c a b some count =
-    let enough : frame_bytes c ≤ length a = enough_by c a n count in
-    let rest : List ℕ = drop (frame_bytes c) a in
-    let fewer : frame_count c (drop (frame_bytes c) a) ≡ n = omega (arith, count, frame_count-more c a some enough) in
-    frames_of_bytes-front c a b some enough
-    ∙ (ap (λ xs. frame_from_bytes c (take (frame_bytes c) a) ∷ xs) (frames_of_bytes-append_by n c (drop (frame_bytes c) a) b some fewer)
-    ∙ (ap (λ xs. xs ++ frames_of_bytes c (rest_of c (drop (frame_bytes c) a) ++ b)) (sym (frames_of_bytes-more c a some enough))
-    ∙ ap (λ x. frames_of_bytes c a ++ frames_of_bytes c (x ++ b)) (sym (rest_of-more c a some enough))))
-
-rest_of-append_by : (n : ℕ) (c : Conversion) (a b : List ℕ) → 1 ≤ frame_bytes c → frame_count c a ≡ n → rest_of c (a ++ b) ≡ rest_of c (rest_of c a ++ b)
-rest_of-append_by zero c a b some none = ap (λ x. rest_of c (x ++ b)) (sym (rest_of-short c a (short_by c a some none)))
-rest_of-append_by (suc n) c a b some count =
-    let enough : frame_bytes c ≤ length a = enough_by c a n count in
-    let fewer : frame_count c (drop (frame_bytes c) a) ≡ n = omega (arith, count, frame_count-more c a some enough) in
-    rest_of-front c a b some enough
-    ∙ (rest_of-append_by n c (drop (frame_bytes c) a) b some fewer
-    ∙ ap (λ x. rest_of c (x ++ b)) (sym (rest_of-more c a some enough)))
-
-pub frames_of_bytes-append : (c : Conversion) (a b : List ℕ) → 1 ≤ frame_bytes c → frames_of_bytes c (a ++ b) ≡ frames_of_bytes c a ++ frames_of_bytes c (rest_of c a ++ b)
-frames_of_bytes-append c a b some = frames_of_bytes-append_by (frame_count c a) c a b some refl
-
-pub rest_of-append : (c : Conversion) (a b : List ℕ) → 1 ≤ frame_bytes c → rest_of c (a ++ b) ≡ rest_of c (rest_of c a ++ b)
-rest_of-append c a b some = rest_of-append_by (frame_count c a) c a b some refl
+pub joined : (c : Conversion) (a b : List ℕ) → 1 ≤ frame_bytes c → AreJoined c a b
+joined c a b some = joined_by (length a) c a b some (omega arith)

@@ -1,17 +1,13 @@
 -- Numbers on a line between two samples, and frames on it.
-use Rattle.plug_chain.specs.Prelude.{ap, append_assoc, arith, drop, FitsSigned, get_or, inl, inr, length, List, negsuc, pos, refl, subst, suc, sym, zero, ℕ, ℤ}
-use Rattle.plug_chain.specs.Prelude.{[], ◌%◌, ◌*◌, ◌++◌, ◌+◌, ◌-◌, ◌/◌, ◌<◌, ◌∙◌, ◌∷◌, ◌≡◌, ◌≤◌, div-le_self, mul-le-mul, mul-le-mul_left, drop-cons, cases_lt}
-use Rattle.plug_chain.specs.Prelude.{by_lt_z, ints, to_z-of_z, div-add-mod', div-mul-add, div_below, mod-mul-add, mod_below, div_ceil, int_div_euclid, w16, w64}
-use Rattle.plug_chain.specs.Prelude.{unsigned_abs, ◌*ℤ◌, ◌+ℤ◌, ◌-ℤ◌, ◌<ℤ◌, ◌≤ℤ◌, to_z, frame_between, IsRise, on_line}
+use Rattle.plug_chain.specs.Prelude.{ap, append_assoc, arith, drop, FitsSigned, get_or, length, List, negsuc, pos, refl, subst, suc, sym, zero, ℕ, ℤ, [], ◌*◌}
+use Rattle.plug_chain.specs.Prelude.{◌++◌, ◌+◌, ◌-◌, ◌/◌, ◌<◌, ◌∙◌, ◌∷◌, ◌≡◌, ◌≤◌, mul-le-mul, mul-le-mul_left, drop-cons, nat_tests, ints, to_z-of_z}
+use Rattle.plug_chain.specs.Prelude.{div_below, div_ceil, int_div_euclid, w16, w64, unsigned_abs, ◌*ℤ◌, ◌+ℤ◌, ◌-ℤ◌, ◌<ℤ◌, ◌≤ℤ◌, to_z, frame_between, IsRise}
+use Rattle.plug_chain.specs.Prelude.{on_line}
 use lib.IntN.{neg_ℤ}
 
 -- a part of a number is at most the number
 part_of-le : (n part parts : ℕ) → 1 ≤ parts → part ≤ parts → n * part / parts ≤ n
-part_of-le n part parts some within =
-    let h : n * part ≤ n * parts = mul-le-mul_left n within in
-    let low : n * part < suc n * parts = omega (arith, h) in
-    let below : n * part / parts < suc n = div_below (n * part) parts (suc n) some low in
-    omega arith
+part_of-le n part parts some within = grind (arith, nat_tests)
 
 -- nothing divided
 div_euclid-zero : (parts : ℕ) → 1 ≤ parts → int_div_euclid (pos 0) (pos parts) ≡ pos 0
@@ -63,18 +59,11 @@ on_line-none parts x y some = ap (λ z. x +ℤ int_div_euclid z (pos parts)) (mu
 
 -- between two numbers that are one there is no other
 pub on_line-same : (part parts : ℕ) (x : ℤ) → 1 ≤ parts → on_line part parts x x ≡ x
-on_line-same part parts x some =
-    let none : x -ℤ x ≡ pos 0 = omega (arith, ints) in
-    ap (λ z. x +ℤ int_div_euclid (z *ℤ pos part) (pos parts)) none ∙ ap (λ (n : ℕ). x +ℤ int_div_euclid (pos n) (pos parts)) (let e : 0 * part ≡ 0 = omega arith in e)
-    ∙ ap (λ z. x +ℤ z) (div_euclid-zero parts some) ∙ omega (arith, ints)
+on_line-same part parts x some = grind (arith, nat_tests)
 
 -- the whole of a rise
 div_euclid-whole : (rise : ℤ) (parts : ℕ) → 1 ≤ parts → int_div_euclid (rise *ℤ pos parts) (pos parts) ≡ rise
-div_euclid-whole (pos n) parts some = ap pos (ap (λ (m : ℕ). m / parts) (let e : n * parts ≡ n * parts + 0 = omega arith in e) ∙ div-mul-add n parts 0 some)
-div_euclid-whole (negsuc n) parts some =
-    let whole : suc n * parts ≡ suc (n * parts + (parts - 1)) = omega arith in
-    let last : parts - 1 < parts = omega arith in
-    div_euclid-negative (suc n * parts) (n * parts + (parts - 1)) parts whole ∙ ap negsuc (div-mul-add n parts (parts - 1) last)
+div_euclid-whole rise parts some = grind (arith, nat_tests)
 
 -- the whole way is the end
 pub on_line-whole : (parts : ℕ) (x y : ℤ) → 1 ≤ parts → on_line parts parts x y ≡ y
@@ -102,43 +91,19 @@ pub between-step : (part parts i : ℕ) (xs ys out all : List ℤ) (z : ℤ) →
 between-step part parts i xs ys out all z within same is so_far =
     let within_too : i < length ys = omega arith in
     let next : i + 1 ≡ suc i = omega arith in
-    append_assoc out (z ∷ []) (frame_between part parts (drop (i + 1) xs) (drop (i + 1) ys))
-    ∙ (ap (λ w. out ++ w ∷ frame_between part parts (drop (i + 1) xs) (drop (i + 1) ys)) is
-    ∙ (ap (λ (k : ℕ). out ++ on_line part parts (get_or xs i (pos 0)) (get_or ys i (pos 0)) ∷ frame_between part parts (drop k xs) (drop k ys)) next
-    ∙ (ap (λ us. out ++ frame_between part parts us (get_or ys i (pos 0) ∷ drop (suc i) ys)) (sym (drop-cons xs i (pos 0) within))
-    ∙ (ap (λ us. out ++ frame_between part parts (drop i xs) us) (sym (drop-cons ys i (pos 0) within_too))
-    ∙ so_far))))
+    rw (append_assoc out (z ∷ []) (frame_between part parts (drop (i + 1) xs) (drop (i + 1) ys)), next, is)
+    (rw (drop-cons xs i (pos 0) within, drop-cons ys i (pos 0) within_too) at so_far)
 
 -- a number between two samples is one
 pub FitsSigned-part : (x y q : ℤ) → FitsSigned w16 x → FitsSigned w16 y → IsPartOf (y -ℤ x) q → FitsSigned w16 (x +ℤ q)
-FitsSigned-part x y q x_fits y_fits part = by_lt_z y x
-    (λ falls. let low : (y -ℤ x) ≤ℤ q = part.down_low (omega (arith, ints)) in let high : q ≤ℤ pos 0 = part.down_high (omega (arith, ints)) in omega (arith, ints))
-    (λ rises. let low : pos 0 ≤ℤ q = part.up_low (omega (arith, ints)) in let high : q ≤ℤ (y -ℤ x) = part.up_high (omega (arith, ints)) in omega (arith, ints))
+FitsSigned-part x y q x_fits y_fits part = grind (arith, nat_tests)
 
 -- a size that is rounded up
 div_ceil-more : (k parts : ℕ) → 1 ≤ parts → div_ceil (suc k) parts ≡ suc (k / parts)
-div_ceil-more k parts some =
-    let split : k / parts * parts + k % parts ≡ k = div-add-mod' k parts in
-    let low : k % parts < parts = mod_below k parts some in
-    elim (cases_lt (suc (k % parts)) parts) [
-      | inl within ↦
-          let is : suc k ≡ k / parts * parts + suc (k % parts) = omega arith in
-          let div_is : suc k / parts ≡ k / parts = ap (λ (n : ℕ). n / parts) is ∙ div-mul-add (k / parts) parts (suc (k % parts)) within in
-          let mod_is : suc k % parts ≡ suc (k % parts) = ap (λ (n : ℕ). n % parts) is ∙ mod-mul-add (k / parts) parts (suc (k % parts)) within in
-          omega (arith, div_is, mod_is)
-      | inr whole ↦
-          let is : suc k ≡ suc (k / parts) * parts + 0 = omega arith in
-          let div_is : suc k / parts ≡ suc (k / parts) = ap (λ (n : ℕ). n / parts) is ∙ div-mul-add (suc (k / parts)) parts 0 some in
-          let mod_is : suc k % parts ≡ 0 = ap (λ (n : ℕ). n % parts) is ∙ mod-mul-add (suc (k / parts)) parts 0 some in
-          omega (arith, div_is, mod_is)
-    ]
+div_ceil-more k parts some = grind (arith, nat_tests)
 
 div_ceil-none : (parts : ℕ) → 1 ≤ parts → div_ceil 0 parts ≡ 0
-div_ceil-none parts some =
-    let is : 0 ≡ 0 * parts + 0 = omega arith in
-    let div_is : 0 / parts ≡ 0 = ap (λ (n : ℕ). n / parts) is ∙ div-mul-add 0 parts 0 some in
-    let mod_is : 0 % parts ≡ 0 = ap (λ (n : ℕ). n % parts) is ∙ mod-mul-add 0 parts 0 some in
-    omega (arith, div_is, mod_is)
+div_ceil-none parts some = grind (arith, nat_tests)
 
 -- a negative number is divided by its size, rounded up
 div_euclid-ceil : (m parts : ℕ) → 1 ≤ parts → neg_ℤ (pos (div_ceil m parts)) ≡ int_div_euclid (neg_ℤ (pos m)) (pos parts)
@@ -152,10 +117,6 @@ div_euclid-fall (pos n) part parts q falls some is = absurd (omega (arith, ints)
 div_euclid-fall (negsuc n) part parts q falls some is =
     let zero_less : pos 0 -ℤ pos q ≡ neg_ℤ (pos q) = omega (arith, ints) in
     zero_less ∙ (ap (λ (m : ℕ). neg_ℤ (pos m)) is ∙ div_euclid-ceil (suc n * part) parts some)
-
--- its size is small
-pub div_ceil-le : (m parts : ℕ) → div_ceil m parts ≤ m + 1
-div_ceil-le m parts = omega (arith, div-le_self m parts)
 
 rise-most : (rise : ℤ) → IsRise rise → unsigned_abs rise ≤ 65535
 rise-most (pos n) is = let high = is.high in omega (arith, ints, high)

@@ -1,25 +1,16 @@
 -- Where output frames lie.
 use Rattle.plug_chain.specs.Prelude.{ap, arith, get_or, inl, inr, length, length-append, List, refl, suc, sym, zero, ℕ, ℤ, [], ◌%◌, ◌*◌, ◌++◌, ◌+◌, ◌-◌, ◌/◌}
-use Rattle.plug_chain.specs.Prelude.{◌<◌, ◌∙◌, ◌∷◌, ◌≡◌, ◌≤◌, div-mul-le_self, mul-le-mul_right, get_or-append_seam, cases_lt, get_or_append_left}
-use Rattle.plug_chain.specs.Prelude.{get_or_default, div-add-mod', div-mul-add, div_below, le-div, mod-mul-add, mod_below, min, AreRates, frame_at}
-use Rattle.plug_chain.specs.Prelude.{frame_between, IsRateAt, known_count, output_count, output_frame, RatePair, silence}
+use Rattle.plug_chain.specs.Prelude.{◌<◌, ◌∙◌, ◌∷◌, ◌≡◌, ◌≤◌, div-mul-le_self, mul-le-mul_right, get_or-append_seam, cases_lt, nat_tests, get_or_append_left}
+use Rattle.plug_chain.specs.Prelude.{get_or_default, div-add-mod', div-mul-add, mod-mul-add, mod_below, min, AreRates, frame_at, frame_between, IsRateAt}
+use Rattle.plug_chain.specs.Prelude.{known_count, output_count, output_frame, RatePair, silence}
 use Rattle.plug_chain.proofs.Lines.{between-none, between-same, between-whole}
 
 -- the number of the first frame past n frames, counted by output frames
 pub known_count-is : (r : RatePair) (n j : ℕ) → n * r.output < j * r.input → j * r.input ≤ n * r.output + r.input → known_count r (suc n) ≡ j
-known_count-is r n zero past near = absurd (omega arith)
-known_count-is r n (suc k) past near =
-    let whole : n * r.output ≡ k * r.input + (n * r.output - k * r.input) = omega arith in
-    let low : n * r.output - k * r.input < r.input = omega arith in
-    let count : n * r.output / r.input ≡ k = ap (λ (m : ℕ). m / r.input) whole ∙ div-mul-add k r.input (n * r.output - k * r.input) low in
-    omega (arith, count)
+known_count-is r n j past near = grind (arith, nat_tests)
 
 pub output_count-is : (r : RatePair) (n j : ℕ) → 1 ≤ r.input → n * r.output ≤ j * r.input → j * r.input < n * r.output + r.input → output_count r n ≡ j
-output_count-is r n j some past near =
-    let rest : ℕ = n * r.output + (r.input - 1) - j * r.input in
-    let whole : n * r.output + (r.input - 1) ≡ j * r.input + (n * r.output + (r.input - 1) - j * r.input) = omega arith in
-    let low : n * r.output + (r.input - 1) - j * r.input < r.input = omega arith in
-    ap (λ (m : ℕ). m / r.input) whole ∙ div-mul-add j r.input (n * r.output + (r.input - 1) - j * r.input) low
+output_count-is r n j some past near = grind (arith, nat_tests)
 
 -- a frame that is there
 pub frame_at-within : (frames : List (List ℤ)) (i : ℕ) → i < length frames → frame_at frames i ≡ get_or frames i []
@@ -68,9 +59,12 @@ known_at : (r : RatePair) (frames : List (List ℤ)) (x : List ℤ) (j m : ℕ) 
     → output_frame r (frames ++ x ∷ []) j ≡ output_frame r frames j
 known_at r frames x j m many some is =
     let here : m < length frames = omega (arith, many) in
-    output_frame-at r (frames ++ x ∷ []) j m 0 some is
-    ∙ between-none r.output (frame_at (frames ++ x ∷ []) m) (frame_at (frames ++ x ∷ []) (m + 1)) some ∙ frame_at-append frames (x ∷ []) m here
-    ∙ sym (output_frame-at r frames j m 0 some is ∙ between-none r.output (frame_at frames m) (frame_at frames (m + 1)) some ∙ frame_at-within frames m here)
+    rw (
+      output_frame-at r (frames ++ x ∷ []) j m 0 some is,
+      between-none r.output (frame_at (frames ++ x ∷ []) m) (frame_at (frames ++ x ∷ []) (m + 1)) some,
+      frame_at-append frames (x ∷ []) m here,
+    )
+    (rw (output_frame-at r frames j m 0 some is, between-none r.output (frame_at frames m) (frame_at frames (m + 1)) some, frame_at-within frames m here) refl)
 
 known_by : (n : ℕ) (r : RatePair) (frames : List (List ℤ)) (x : List ℤ) (j : ℕ) → AreRates r → length frames ≡ n → j < known_count r n
     → output_frame r (frames ++ x ∷ []) j ≡ output_frame r frames j
@@ -101,9 +95,13 @@ next_before zero r channels frames x last start place j at many low is = absurd 
 next_before (suc m) r channels frames x last start place j at many low is =
     let here : m < length frames = omega (arith, many) in
     let lies : j * r.input ≡ m * r.output + place = omega (arith, is) in
-    output_frame-at r (frames ++ x ∷ []) j m place low lies
-    ∙ (ap (λ f. frame_between place r.output f (frame_at (frames ++ x ∷ []) (m + 1))) (frame_at-append frames (x ∷ []) m here ∙ last_is r channels frames last start m at many)
-    ∙ ap (λ f. frame_between place r.output last f) (frame_at-seam frames x (m + 1) (omega (arith, many))))
+    rw (
+      output_frame-at r (frames ++ x ∷ []) j m place low lies,
+      frame_at-append frames (x ∷ []) m here,
+      last_is r channels frames last start m at many,
+      frame_at-seam
+          frames x (m + 1) (omega (arith, many)),
+    ) refl
 
 -- the next output frame, where one more frame came
 pub output_frame-next : (r : RatePair) (channels : ℕ) (frames : List (List ℤ)) (x last : List ℤ) (start place j : ℕ) → AreRates r → IsRateAt r channels frames last start
@@ -114,11 +112,12 @@ output_frame-next r channels frames x last start place j rates at same within is
   | inr whole ↦
       let place_is : place ≡ r.output = omega arith in
       let lies : j * r.input ≡ length frames * r.output + 0 = omega (arith, is) in
-      output_frame-at r (frames ++ x ∷ []) j (length frames) 0 rates.some_output lies
-      ∙ (between-none r.output (frame_at (frames ++ x ∷ []) (length frames)) (frame_at (frames ++ x ∷ []) (length frames + 1)) rates.some_output
-      ∙ (frame_at-seam frames x (length frames) (omega arith)
-      ∙ (sym (between-whole r.output last x rates.some_output same)
-      ∙ ap (λ (k : ℕ). frame_between k r.output last x) (sym place_is))))
+      rw (
+        output_frame-at r (frames ++ x ∷ []) j (length frames) 0 rates.some_output lies,
+        between-none r.output (frame_at (frames ++ x ∷ []) (length frames))
+            (frame_at (frames ++ x ∷ []) (length frames + 1)) rates.some_output,
+      )
+      (rw (frame_at-seam frames x (length frames) (omega arith), place_is, between-whole r.output last x rates.some_output same) refl)
 ]
 
 last_by : (n : ℕ) (r : RatePair) (channels : ℕ) (frames : List (List ℤ)) (last : List ℤ) (start place j : ℕ) → AreRates r → IsRateAt r channels frames last start
@@ -139,17 +138,7 @@ output_frame-last r channels frames last start place j rates at within is = last
 
 -- the output frames are those that lie before the end
 pub output_count-lies : (r : RatePair) (n j : ℕ) → AreRates r → j < output_count r n → j * r.input / r.output < n
-output_count-lies r n j rates below =
-    let h : suc j * r.input ≤ output_count r n * r.input = mul-le-mul_right r.input below in
-    let most : output_count r n * r.input ≤ n * r.output + (r.input - 1) = div-mul-le_self (n * r.output + (r.input - 1)) r.input in
-    let low : j * r.input < n * r.output = omega (arith, h, most, rates.some_input) in
-    div_below (j * r.input) r.output n rates.some_output low
+output_count-lies r n j rates below = grind (arith, nat_tests)
 
 pub output_count-all : (r : RatePair) (n j : ℕ) → AreRates r → j * r.input / r.output < n → j < output_count r n
-output_count-all r n j rates before =
-    let split : j * r.input / r.output * r.output + j * r.input % r.output ≡ j * r.input = div-add-mod' (j * r.input) r.output in
-    let part : j * r.input % r.output < r.output = mod_below (j * r.input) r.output rates.some_output in
-    let h : suc (j * r.input / r.output) * r.output ≤ n * r.output = mul-le-mul_right r.output before in
-    let enough : suc j * r.input ≤ n * r.output + (r.input - 1) = omega (arith, split, part, h, rates.some_input) in
-    let least : suc j ≤ output_count r n = le-div (suc j) (n * r.output + (r.input - 1)) r.input rates.some_input enough in
-    omega arith
+output_count-all r n j rates before = grind (arith, nat_tests)

@@ -16,11 +16,10 @@ pub HasReached-more : (c : Conversion) (frames : List (List ℤ)) (bytes rest : 
 HasReached-more c frames bytes rest start course old mid new some enough so_far advances =
     let one : List (List ℤ) = frame_from_bytes c (take (frame_bytes c) rest) ∷ [] in
     record {
-      reached = so_far.reached ++ frame_from_bytes c (take (frame_bytes c) rest) ∷ [];
-      goes = IsAdvance-trans c.rates c.table.outputs frames so_far.reached (so_far.reached ++ frame_from_bytes c (take (frame_bytes c) rest) ∷ []) start course old mid new so_far.goes
+      reached = so_far.reached ++ one;
+      goes = IsAdvance-trans c.rates c.table.outputs frames so_far.reached (so_far.reached ++ one) start course old mid new so_far.goes
           (advances so_far.reached so_far.goes.at);
-      left = append_assoc so_far.reached (frame_from_bytes c (take (frame_bytes c) rest) ∷ []) (frames_of_bytes c (drop (frame_bytes c) rest))
-          ∙ (ap (λ xs. so_far.reached ++ xs) (sym (frames_of_bytes-more c rest some enough)) ∙ so_far.left);
+      left = rw (append_assoc so_far.reached one (frames_of_bytes c (drop (frame_bytes c) rest)), ← frames_of_bytes-more c rest some enough) so_far.left;
     }
 
 pub HasReached-end : (c : Conversion) (frames : List (List ℤ)) (bytes rest : List ℕ) (course : Course) (old new : List ℤ) → length rest < frame_bytes c
@@ -33,7 +32,4 @@ HasReached-end c frames bytes rest course old new short so_far =
 pub samples_in-step : (from : Wide) (m k : ℕ) (rest : List ℕ) (xs all : List ℤ) (x : ℤ) → m ≡ suc k → x ≡ wide_sample from (take (bytes_of from) rest) → xs ++ samples_in from m rest ≡ all
     → (xs ++ x ∷ []) ++ samples_in from k (drop (bytes_of from) rest) ≡ all
 samples_in-step from m k rest xs all x more is so_far =
-    append_assoc xs (x ∷ []) (samples_in from k (drop (bytes_of from) rest))
-    ∙ (ap (λ z. xs ++ z ∷ samples_in from k (drop (bytes_of from) rest)) is
-    ∙ (ap (λ n. xs ++ samples_in from n rest) (sym more)
-    ∙ so_far))
+    rw (append_assoc xs (x ∷ []) (samples_in from k (drop (bytes_of from) rest)), is) (rw more at so_far)

@@ -1,14 +1,13 @@
 -- How a conversion goes on with more bytes.
-use Rattle.plug_chain.specs.Prelude.{ap, append_assoc, arith, drop, Err, length, List, Ok, refl, Result, subst, suc, sym, take, zero, ℕ, ℤ, [], ◌*◌, ◌++◌, ◌<◌}
-use Rattle.plug_chain.specs.Prelude.{◌∙◌, ◌∷◌, ◌≡◌, ◌≤◌, mul-le-mul, drop-length, take-length, append-nil, length-map-range_with_len, IsErrAnd, OnOk, Course}
-use Rattle.plug_chain.specs.Prelude.{Wide, Advances, Ends, IsAdvance, Conversion, frame_bytes, frame_from_bytes, frames_of_bytes, rest_of, samples_in, Appends}
-use Rattle.plug_chain.specs.Prelude.{part_bytes, samples_of, Completes, Continues, HasTakenBytes, IsStage, IsCourse, IsRateAt, known_samples, RatePair}
-use Rattle.plug_chain.specs.Prelude.{bytes_of, ChannelTable, IsTable, output_channel, output_samples, conversion_of, stage_of}
+use Rattle.plug_chain.specs.Prelude.{ap, append_assoc, arith, drop, Err, length, length-append, List, Ok, refl, Result, subst, suc, sym, zero, ℕ, ℤ, [], ◌*◌}
+use Rattle.plug_chain.specs.Prelude.{◌++◌, ◌<◌, ◌∙◌, ◌∷◌, ◌≡◌, ◌≤◌, mul-le-mul, nat_tests, append-nil, drop_at, take_at, length-map-range_with_len, IsErrAnd}
+use Rattle.plug_chain.specs.Prelude.{OnOk, Course, Wide, Advances, Ends, IsAdvance, Conversion, frame_bytes, frame_from_bytes, frames_of_bytes, rest_of}
+use Rattle.plug_chain.specs.Prelude.{samples_in, Appends, part_bytes, samples_of, Completes, Continues, HasTakenBytes, IsStage, IsCourse, IsRateAt}
+use Rattle.plug_chain.specs.Prelude.{known_samples, RatePair, bytes_of, ChannelTable, IsTable, output_channel, output_samples, conversion_of, stage_of}
 use Rattle.plug_chain.specs.declared.converter.Converter.{Converter}
 use Rattle.plug_chain.specs.declared.converter.Progress.{Progress}
-use Rattle.plug_chain.specs.declared.wide.Wide.TheVariants.{S8, U8, S16Le, S16Be, S24Packed, S32Le}
-use Rattle.plug_chain.proofs.Courses.{IsAdvance-none, IsAdvance-trans}
-use Rattle.plug_chain.proofs.Cuts.{frames_of_bytes-append, frames_of_bytes-front, frames_of_bytes-short, rest_of-append, rest_of-front, rest_of-short}
+use Rattle.plug_chain.proofs.Courses.{IsAdvance-trans}
+use Rattle.plug_chain.proofs.Cuts.{frames_of_bytes-more, frames_of_bytes-short, joined, rest_of-more, rest_of-short}
 
 -- two facts of what was returned
 pub on_ok_both : {T E P Q R : Type 0} (r : Result T E) → (P → Q → R) → OnOk r P → OnOk r Q → OnOk r R
@@ -27,12 +26,7 @@ record IsWidth (n : ℕ) : Type 0 where
   few : n ≤ 4
 
 width_of : (from : Wide) → IsWidth (bytes_of from)
-width_of S8 = record { some = omega arith; few = omega arith }
-width_of U8 = record { some = omega arith; few = omega arith }
-width_of S16Le = record { some = omega arith; few = omega arith }
-width_of S16Be = record { some = omega arith; few = omega arith }
-width_of S24Packed = record { some = omega arith; few = omega arith }
-width_of S32Le = record { some = omega arith; few = omega arith }
+width_of from = grind (arith, nat_tests)
 
 pub frame_bytes-some : (c : Conversion) → IsTable c.table → 1 ≤ frame_bytes c
 frame_bytes-some c table = let h : 1 * 1 ≤ c.table.inputs * bytes_of c.from = mul-le-mul table.some_input (width_of c.from).some in omega (arith, h)
@@ -51,7 +45,9 @@ length-output_samples t samples = length-map-range_with_len (output_channel t sa
 -- ---- more frames
 
 pub Advances-none : (r : RatePair) (channels : ℕ) (course : Course) (old : List ℤ) → Advances r channels [] course course old old
-Advances-none r channels course old = λ frames at. subst (λ (xs : List (List ℤ)). IsAdvance r channels frames xs course old old) (sym (append-nil frames)) (IsAdvance-none r channels frames course old at)
+Advances-none r channels course old = λ frames at.
+    subst (λ (xs : List (List ℤ)). IsAdvance r channels frames xs course old old) (sym (append-nil frames))
+    (record { at = at; appends = record { more = []; longer_is = sym (append-nil _); new_is = sym (append-nil old) } })
 
 pub Advances-trans : (r : RatePair) (channels : ℕ) (first : List ℤ) (more : List (List ℤ)) (start middle course : Course) (old mid new : List ℤ)
     → Advances r channels (first ∷ []) start middle old mid → Advances r channels more middle course mid new → Advances r channels (first ∷ more) start course old new
@@ -72,13 +68,13 @@ Continues-by v p q bytes old new table advances part =
     let c : Conversion = conversion_of v in
     let some : 1 ≤ frame_bytes (conversion_of v) = frame_bytes-some (conversion_of v) table in
     let all : (fed : List ℕ) → HasTakenBytes (stage_of v p) fed → frames_of_bytes (conversion_of v) (fed ++ bytes) ≡ frames_of_bytes (conversion_of v) fed ++ frames_of_bytes (conversion_of v) (part_bytes p.part ++ bytes) =
-    λ fed taken. frames_of_bytes-append (conversion_of v) fed bytes some
+    λ fed taken. (joined (conversion_of v) fed bytes some).frames
     ∙ ap (λ (xs : List ℕ). frames_of_bytes (conversion_of v) fed ++ frames_of_bytes (conversion_of v) (xs ++ bytes)) (sym taken.part)
     in
     record {
       conversion = refl;
       stage = λ fed taken. record {
-        part = part ∙ (ap (λ (xs : List ℕ). rest_of (conversion_of v) (xs ++ bytes)) taken.part ∙ sym (rest_of-append (conversion_of v) fed bytes some));
+        part = part ∙ (ap (λ (xs : List ℕ). rest_of (conversion_of v) (xs ++ bytes)) taken.part ∙ sym (joined (conversion_of v) fed bytes some).rest);
         course = subst (λ (xs : List (List ℤ)). IsRateAt v.rates v.table.outputs xs (samples_of q.course.last) q.course.place) (sym (all fed taken)) (advances (frames_of_bytes (conversion_of v) fed) taken.course).at;
       };
       appends = λ fed taken.
@@ -114,17 +110,12 @@ pub Continues-full : (v : Converter) (p q : Progress) (filled behind bytes : Lis
     → Continues (stage_of v p) (stage_of v q) bytes old new
 Continues-full v p q filled behind bytes middle old mid new table all whole first more part =
     let some : 1 ≤ frame_bytes (conversion_of v) = frame_bytes-some (conversion_of v) table in
-    let enough : frame_bytes (conversion_of v) ≤ length filled = omega (arith, whole) in
-    let front : take (frame_bytes (conversion_of v)) filled ≡ filled = ap (λ (n : ℕ). take n filled) (sym whole) ∙ take-length filled in
-    let back : drop (frame_bytes (conversion_of v)) filled ≡ [] = ap (λ (n : ℕ). drop n filled) (sym whole) ∙ drop-length filled in
+    let enough : frame_bytes (conversion_of v) ≤ length (filled ++ behind) = omega (arith, whole, length-append filled behind) in
+    let front = take_at filled behind (frame_bytes (conversion_of v)) whole in
+    let back = drop_at filled behind (frame_bytes (conversion_of v)) whole in
     let frames : frames_of_bytes (conversion_of v) (filled ++ behind) ≡ frame_from_bytes (conversion_of v) filled ∷ frames_of_bytes (conversion_of v) behind =
-    frames_of_bytes-front (conversion_of v) filled behind some enough
-    ∙ (ap (λ (xs : List ℕ). frame_from_bytes (conversion_of v) xs ∷ frames_of_bytes (conversion_of v) (drop (frame_bytes (conversion_of v)) filled ++ behind)) front
-    ∙ ap (λ (xs : List ℕ). frame_from_bytes (conversion_of v) filled ∷ frames_of_bytes (conversion_of v) (xs ++ behind)) back)
-    in
-    let rest : rest_of (conversion_of v) (filled ++ behind) ≡ rest_of (conversion_of v) behind =
-    rest_of-front (conversion_of v) filled behind some enough ∙ ap (λ (xs : List ℕ). rest_of (conversion_of v) (xs ++ behind)) back
-    in
+    rw (frames_of_bytes-more (conversion_of v) (filled ++ behind) some enough, front, back) refl in
+    let rest : rest_of (conversion_of v) (filled ++ behind) ≡ rest_of (conversion_of v) behind = rw (rest_of-more (conversion_of v) (filled ++ behind) some enough, back) refl in
     Continues-by v p q bytes old new table
     (subst (λ (xs : List (List ℤ)). Advances v.rates v.table.outputs xs p.course q.course old new) (sym frames ∙ ap (frames_of_bytes (conversion_of v)) all)
     (Advances-trans v.rates v.table.outputs (frame_from_bytes (conversion_of v) filled) (frames_of_bytes (conversion_of v) behind) p.course middle q.course old mid new first more))
@@ -142,30 +133,14 @@ HasTakenBytes-none v p table none at =
 
 -- ---- the end
 
--- a stage whose course lies where one can lie
-pub IsStage-course : (v : Converter) (p : Progress) → IsStage (stage_of v p) → IsCourse v.rates (length (samples_of p.course.last)) (samples_of p.course.last) p.course.place
-IsStage-course v p stage = record { same_channels = refl; begun = stage.course.begun; near = stage.course.near }
-
 -- what is left of a course is what is left of the conversion
 pub Completes-ends : (v : Converter) (p : Progress) (old new : List ℤ) → IsStage (stage_of v p) → Ends v.rates (length (samples_of p.course.last)) p.course old new → Completes (stage_of v p) old new
-Completes-ends v p old new stage ends fed taken =
-    ends (frames_of_bytes (conversion_of v) fed)
-    (subst (λ (n : ℕ). IsRateAt v.rates n (frames_of_bytes (conversion_of v) fed) (samples_of p.course.last) p.course.place) (sym stage.course.same_channels) taken.course)
+Completes-ends v p old new stage ends fed taken = grind (arith, nat_tests)
 
 -- a stage at the beginning of a frame, on a course that goes on
 pub IsStage-empty : (v : Converter) (p q : Progress) → IsStage (stage_of v p) → part_bytes q.part ≡ [] → IsCourse v.rates v.table.outputs (samples_of q.course.last) q.course.place → IsStage (stage_of v q)
-IsStage-empty v p q stage none course = record {
-  table = stage.table;
-  rates = stage.rates;
-  part = omega (arith, ap length none, frame_bytes-some (conversion_of v) stage.table);
-  course = course;
-}
+IsStage-empty v p q stage none course = grind (arith, nat_tests)
 
 -- a stage with more of a frame begun, and the same course
 pub IsStage-part : (v : Converter) (p q : Progress) → IsStage (stage_of v p) → length (part_bytes q.part) < frame_bytes (conversion_of v) → q.course ≡ p.course → IsStage (stage_of v q)
-IsStage-part v p q stage short same = record {
-  table = stage.table;
-  rates = stage.rates;
-  part = short;
-  course = subst (λ (course : Course). IsCourse v.rates v.table.outputs (samples_of course.last) course.place) (sym same) stage.course;
-}
+IsStage-part v p q stage short same = grind (arith, nat_tests)

@@ -4,12 +4,12 @@ pub use Rattle.std.proofs.Common.{Ok, pos, refl, Result, rules, subst, suc, sym,
 pub use Rattle.std.proofs.Common.{◌≤◌}
 pub use Rattle.std.proofs.Math.ListN.{length-set, set}
 pub use Rattle.std.proofs.Math.Nat.{div-le_self, div-mul-le_self, mul-le-mul, mul-le-mul_left, mul-le-mul_right}
-pub use Rattle.std.proofs.Math.Seq.{drop-cons, drop-length, get_or-append_seam, take-length, take-suc-set}
+pub use Rattle.std.proofs.Math.Seq.{drop-cons, get_or-append_seam, take-length, take-suc-set}
 pub use Rattle.std.proofs.lemmas.Bool.{cases_lt}
 pub use Rattle.std.proofs.lemmas.Bool.Decides.{nat_tests}
-pub use Rattle.std.proofs.lemmas.Int.{by_lt_z, clamps, ints, to_z-of_z}
-pub use Rattle.std.proofs.lemmas.List.{append-nil, drop-append-le, drop-drop, get_or_append_left, get_or_default, length-replicate, nil_from_length}
-pub use Rattle.std.proofs.lemmas.List.{take-append-drop, take-append-le, take-replicate}
+pub use Rattle.std.proofs.lemmas.Int.{clamps, ints, to_z-of_z}
+pub use Rattle.std.proofs.lemmas.List.{append-nil, drop-append-le, drop-drop, drop_at, get_or_append_left, get_or_default, length-replicate, nil_from_length}
+pub use Rattle.std.proofs.lemmas.List.{take-append-drop, take-append-le, take-replicate, take_at, take_more}
 pub use Rattle.std.proofs.lemmas.List.FromFn.{length-map-range_with_len, map-range_with_len_more}
 pub use Rattle.std.proofs.lemmas.Nat.{div-add-mod', div-mul-add, div_below, le-div, mod-mul-add, mod_below}
 pub use Rattle.std.proofs.lemmas.Result.{err_from_is_err_and}

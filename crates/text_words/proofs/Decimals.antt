@@ -10,10 +10,6 @@ use Rattle.text_words.proofs.PlainLines.{is_plain_byte, is_plain_word}
 use Rattle.text_words.proofs.Tests.{and_true, both, weaker}
 use Rattle.text_words.proofs.Within.{within-fits, within-most, within-some}
 
--- a digit is a byte of a word
-digit-plain_byte : (b : ℕ) → is_ascii_digit b ≡ true → is_plain_byte b ≡ true
-digit-plain_byte b e = grind (arith, nat_tests)
-
 -- a decimal text is a word
 pub is_plain_word-decimal : (n : ℕ) → n < 2 ^ 63 → is_plain_word (decimal n) ≡ true
 is_plain_word-decimal n small =
@@ -21,7 +17,7 @@ is_plain_word-decimal n small =
     let some : 0 < length (decimal n) = decimal_nonempty n fits in
     let least : nat_le 1 (length (decimal n)) ≡ true = grind (arith, nat_tests, some) in
     let digits = all_digits (decimal n) ∙ digits_decimal own n fits in
-    rw (least, weaker is_ascii_digit is_plain_byte digit-plain_byte (decimal n) digits) refl
+    rw (least, weaker is_ascii_digit is_plain_byte (λ b e. grind (arith, nat_tests)) (decimal n) digits) refl
 
 -- a decimal text is a numeral of its number
 pub number_of_word-decimal : (n : ℕ) → n < 2 ^ 63 → number_of_word (decimal n) ≡ Some n

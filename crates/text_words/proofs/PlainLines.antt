@@ -2,8 +2,7 @@
 use Rattle.text_words.specs.Prelude.{ap, append_assoc, arith, Bool, cond, false, filter, get_or, length, List, nat_le, not, one-add, refl, suc, sym, take, true}
 use Rattle.text_words.specs.Prelude.{zero, ℕ, [], ◌&&◌, ◌+◌, ◌-◌, ◌==◌, ◌||◌, ◌∙◌, ◌∷◌, ◌≡◌, false≢true, nat_tests, append-nil, take_all, slice_split_at}
 use Rattle.text_words.specs.Prelude.{slice_split_none, before_first, enumerate_from, join_with_byte, list_all, position_or_len, slice_split, is_blank, is_hash}
-use Rattle.text_words.specs.Prelude.{is_word, line_text, lines_from, lines_text, numbered_lines, put_line, without_return, word_lines, words_between, words_in}
-use Rattle.text_words.specs.Prelude.{is_feed}
+use Rattle.text_words.specs.Prelude.{is_word, line_text, lines_from, lines_text, numbered_lines, put_line, word_lines, words_between, words_in, is_feed}
 use Rattle.std.proofs.lemmas.List.Folds.{list_all-append}
 use Rattle.text_words.proofs.Tests.{all_of, both, weaker}
 
@@ -30,18 +29,6 @@ plain_byte-blank b e = grind (arith, nat_tests)
 -- a byte of a word can be in a line
 plain_byte-line : (b : ℕ) → is_plain_byte b ≡ true → is_line_byte b ≡ true
 plain_byte-line b e = rw e refl
-
--- a byte of such a line ends no line
-line_byte-feed : (b : ℕ) → is_line_byte b ≡ true → is_feed b ≡ false
-line_byte-feed b e = grind (arith, nat_tests)
-
--- a byte of such a line begins no comment
-line_byte-hash : (b : ℕ) → is_line_byte b ≡ true → is_hash b ≡ false
-line_byte-hash b e = grind (arith, nat_tests)
-
--- a byte of such a line is no carriage return
-line_byte-return : (b : ℕ) → is_line_byte b ≡ true → (b == 13) ≡ false
-line_byte-return b e = grind (arith, nat_tests)
 
 -- a word that has a byte is kept
 kept : (w : List ℕ) (ws : List (List ℕ)) → nat_le 1 (length w) ≡ true → filter is_word (w ∷ ws) ≡ w ∷ filter is_word ws
@@ -74,32 +61,26 @@ join-line w (y ∷ ys) e =
 -- no byte of such a line is a carriage return
 no_return : (line : List ℕ) (k : ℕ) → list_all is_line_byte line ≡ true → (get_or line k 0 == 13) ≡ false
 no_return [] k e = refl
-no_return (b ∷ bs) zero e = line_byte-return b (both (is_line_byte b) (list_all is_line_byte bs) e).0
+no_return (b ∷ bs) zero e = let here = (both (is_line_byte b) (list_all is_line_byte bs) e).0 in grind (arith, nat_tests, here)
 no_return (b ∷ bs) (suc k) e = no_return bs k (both (is_line_byte b) (list_all is_line_byte bs) e).1
-
-without_return-line : (line : List ℕ) → list_all is_line_byte line ≡ true → without_return line ≡ line
-without_return-line line e = ap (λ t. cond t (take (length line - 1) line) line) (no_return line (length line - 1) e)
 
 -- such a line has no comment
 position_or_len-line : (line : List ℕ) → list_all is_line_byte line ≡ true → position_or_len is_hash line ≡ length line
 position_or_len-line [] e = refl
 position_or_len-line (b ∷ bs) e =
     let parts = both (is_line_byte b) (list_all is_line_byte bs) e in
-    ap (λ t. cond (not t) (1 + position_or_len is_hash bs) 0) (line_byte-hash b parts.0)
+    let no_hash : is_hash b ≡ false = grind (arith, nat_tests, parts.0) in
+    ap (λ t. cond (not t) (1 + position_or_len is_hash bs) 0) no_hash
     ∙ ap (λ n. 1 + n) (position_or_len-line bs parts.1)
     ∙ one-add (length bs)
-
-before_first-line : (line : List ℕ) → list_all is_line_byte line ≡ true → before_first is_hash line ≡ line
-before_first-line line e =
-    ap (λ n. take n line) (position_or_len-line line e) ∙ take_all (length line) line (omega arith)
 
 -- such a line has its words
 pub words_in-join : (w : List ℕ) (ws : List (List ℕ)) → list_all is_plain_word (w ∷ ws) ≡ true → words_in (join_with_byte 32 (w ∷ ws)) ≡ w ∷ ws
 words_in-join w ws e =
     let line = join_with_byte 32 (w ∷ ws) in
     let bytes = join-line w ws e in
-    ap (λ l. words_between (before_first is_hash l)) (without_return-line line bytes)
-    ∙ ap words_between (before_first-line line bytes)
+    ap (λ l. words_between (before_first is_hash l)) (ap (λ t. cond t (take (length line - 1) line) line) (no_return line (length line - 1) bytes))
+    ∙ ap words_between (ap (λ n. take n line) (position_or_len-line line bytes) ∙ take_all (length line) line (omega arith))
     ∙ words_between-join w ws e
 
 -- the lines of a text of such lines, each with its number
@@ -110,7 +91,7 @@ lines_from-lines_text n ((w ∷ ws) ∷ lines) e =
     let parts = both (is_plain_line (w ∷ ws)) (list_all is_plain_line lines) e in
     let words = (both (nat_le 1 (length (w ∷ ws))) (list_all is_plain_word (w ∷ ws)) parts.0).1 in
     let line = join_with_byte 32 (w ∷ ws) in
-    let no_feed = all_of is_line_byte is_feed line_byte-feed line (join-line w ws words) in
+    let no_feed = all_of is_line_byte is_feed (λ b is. grind (arith, nat_tests)) line (join-line w ws words) in
     ap (lines_from n) (append_assoc line (10 ∷ []) (lines_text lines))
     ∙ ap (numbered_lines n) (slice_split_at is_feed line 10 (lines_text lines) no_feed refl)
     ∙ ap (λ ps. put_line n ps (lines_from (n + 1) (lines_text lines))) (words_in-join w ws words)

@@ -11,5 +11,5 @@ pub use Rattle.std.specs.List.{All, before_first, enumerate_from, join_with_byte
 pub use Rattle.std.specs.Str.{all_ascii_digits, bytes_eq}
 pub use Rattle.std.specs.Str.Parse.{digits_value}
 pub use Rattle.text_words.specs.Lexing.{first_and_rest, is_blank, is_hash, is_of_word, is_word, line_text, lines_from, lines_text, numbered_lines, put_line}
-pub use Rattle.text_words.specs.Lexing.{without_return, word_lines, words_between, words_in}
+pub use Rattle.text_words.specs.Lexing.{word_lines, words_between, words_in}
 pub use Rattle.text_words.specs.Word.{decimal_of, is_comma, is_decimal, is_feed, is_number, lacks_leading_zero, number_of_word, within}

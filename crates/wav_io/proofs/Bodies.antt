@@ -1,7 +1,7 @@
 -- Samples, two bytes each.
 use Rattle.wav_io.specs.Prelude.{ap, append-nil, append_assoc, arith, drop, false, get_or, length, length-set, List, refl, set, suc, sym, take, zero, ℕ, ℤ, []}
-use Rattle.wav_io.specs.Prelude.{◌%◌, ◌*◌, ◌++◌, ◌+◌, ◌/◌, ◌<◌, ◌∙◌, ◌∷◌, ◌≡◌, ◌≤◌, div-mul-le_self, mul-mod_left, false_from_ne_true, to_z-of_z, drop_more}
-use Rattle.wav_io.specs.Prelude.{length-drop, length-take, length-take-le, take_more_set, from_le_bytes-to_le_bytes_2, cast_signed, cast_unsigned}
+use Rattle.wav_io.specs.Prelude.{◌%◌, ◌*◌, ◌++◌, ◌+◌, ◌/◌, ◌<◌, ◌∙◌, ◌∷◌, ◌≡◌, ◌≤◌, div-mul-le_self, mul-mod_left, false_from_ne_true, nat_tests, to_z-of_z}
+use Rattle.wav_io.specs.Prelude.{drop_more, length-drop, length-take, length-take-le, take_more_set, from_le_bytes-to_le_bytes_2, cast_signed, cast_unsigned}
 use Rattle.wav_io.specs.Prelude.{from_le_bytes, to_le_bytes, w16, AllByRecursion, flat_map, FitsSigned, bytes_eq, sample_bytes, samples_of_bytes, whole_frames}
 use Rattle.std.proofs.Math.Facts.{Fits-of_z}
 use Rattle.std.proofs.lemmas.Slice.Eq.{bytes_eq-Decides}
@@ -17,9 +17,7 @@ drop-two bytes i inside =
     drop_more bytes (2 * i) 0 here ∙ ap (λ (rest : List ℕ). get_or bytes (2 * i) 0 ∷ rest) (drop_more bytes (2 * i + 1) 0 inside ∙ ap (λ (n : ℕ). get_or bytes (2 * i + 1) 0 ∷ drop n bytes) after)
 
 samples_of_bytes-short : (bytes : List ℕ) → length bytes < 2 → samples_of_bytes bytes ≡ []
-samples_of_bytes-short [] short = refl
-samples_of_bytes-short (low ∷ []) short = refl
-samples_of_bytes-short (low ∷ high ∷ rest) short = absurd (omega arith)
+samples_of_bytes-short bytes short = grind (arith, nat_tests)
 
 -- one more sample is read
 pub goes_on : (front : List ℤ) (bytes : List ℕ) (i : ℕ) (whole : List ℤ) → 2 * i + 1 < length bytes → front ++ samples_of_bytes (drop (2 * i) bytes) ≡ whole
@@ -34,9 +32,7 @@ ends front bytes i whole past so_far =
     sym (append-nil front) ∙ ap (λ (rest : List ℤ). front ++ rest) (sym (samples_of_bytes-short (drop (2 * i) bytes) (omega (arith, length-drop (2 * i) bytes)))) ∙ so_far
 
 two : (low high i : ℕ) → low < 256 → high < 256 → get_or (low ∷ high ∷ []) i 0 < 256
-two low high zero l h = l
-two low high (suc zero) l h = h
-two low high (suc (suc i)) l h = omega arith
+two low high i l h = grind (arith, nat_tests)
 
 pub length-samples_of_bytes : (n : ℕ) (bytes : List ℕ) → length bytes ≡ 2 * n → length (samples_of_bytes bytes) ≡ n
 length-samples_of_bytes n [] even = omega arith
@@ -73,7 +69,6 @@ no_room place bytes name four short =
 -- two bytes after those that were put
 pub pair_put : (i : ℕ) (out : List ℕ) (low high : ℕ) → 2 * i + 1 < length out → take (2 * (i + 1)) (set (set out (2 * i) low) (2 * i + 1) high) ≡ take (2 * i) out ++ (low ∷ high ∷ [])
 pair_put i out low high inside =
-    ap (λ (n : ℕ). take n (set (set out (2 * i) low) (2 * i + 1) high)) (omega arith)
-    ∙ take_more_set (set out (2 * i) low) (2 * i + 1) high (omega (arith, length-set out (2 * i) low))
-    ∙ ap (λ (front : List ℕ). front ++ high ∷ []) (take_more_set out (2 * i) low (omega arith))
-    ∙ append_assoc (take (2 * i) out) (low ∷ []) (high ∷ [])
+    let next : 2 * (i + 1) ≡ (2 * i + 1) + 1 = omega arith in
+    rw (next, take_more_set (set out (2 * i) low) (2 * i + 1) high (omega (arith, length-set out (2 * i) low)), take_more_set out (2 * i) low (omega arith))
+    (append_assoc (take (2 * i) out) (low ∷ []) (high ∷ []))

@@ -1,13 +1,13 @@
 -- A canonical file is read as what it was written from.
 use Rattle.wav_io.specs.Prelude.{ap, arith, cond, drop, eqb, Err, length, List, ltb, None, Ok, refl, Result, Some, subst, sym, take, ℕ, ℤ, ◌*◌, ◌++◌, ◌+◌, ◌/◌}
-use Rattle.wav_io.specs.Prelude.{◌<◌, ◌^◌, ◌||◌, ◌∙◌, ◌≡◌, ◌≤◌, mul-div_cancel, cond-false, le-ltb, ne_eqb, or_from, take_all, recursion_from_All, div-add-mod'}
+use Rattle.wav_io.specs.Prelude.{◌<◌, ◌^◌, ◌||◌, ◌∙◌, ◌≡◌, ◌≤◌, mul-div_cancel, nat_tests, take_all, recursion_from_All, div-add-mod'}
 use Rattle.wav_io.specs.Prelude.{from_le_bytes-to_le_bytes_2, from_le_bytes-to_le_bytes_4, from_le_bytes, to_le_bytes, w16, w32, flat_map, All, codes}
 use Rattle.wav_io.specs.Prelude.{FitsSigned, IfOk, OnOk, WavError, Bits, Channels, RateZero, Sixteen, Format, canonical, HasFile, open_head, sample_bytes}
 use Rattle.wav_io.specs.Prelude.{Chunk, chunks, number_at, samples_of_bytes, whole_frames, format_of, terms_of, at_end, body_found, decides, found_in, goes_on}
 use Rattle.wav_io.specs.Prelude.{most_bytes, scan_of, sound_of, sounds, verdict_of, verdict_of_format, wav_file, IsWholeSound, Sound}
 use Rattle.std.specs.Global.{Vec}
 use Rattle.wav_io.proofs.Bodies.{samples_of_bytes-sample_bytes, length-sample_bytes}
-use Rattle.wav_io.proofs.Cutting.{scan_of-decides, scan_of-goes_on}
+use Rattle.wav_io.proofs.Cutting.{verdict_of-first}
 use Rattle.wav_io.proofs.Limits.{limited-short}
 
 abbrev sound : ℕ → ℕ → List ℤ → Sound
@@ -29,9 +29,6 @@ shown-canonical s file =
     (from_le_bytes-to_le_bytes_4 s.rate (omega (arith, file.low_rate)))
     (samples_of_bytes-sample_bytes s.samples (recursion_from_All (FitsSigned w16) s.samples file.fits))
 
-pub canonical_one : (s t : Sound) → HasFile s → HasFile t → canonical s ≡ canonical t → s ≡ t
-canonical_one s t p q e = sym (shown-canonical s p) ∙ ap shown e ∙ shown-canonical t q
-
 -- ---- the format chunk
 
 abbrev format : ℕ → ℕ → Format
@@ -41,9 +38,7 @@ abbrev terms : ℕ → ℕ → ℕ → Result Format WavError
 terms channels rate bits = cond (ltb channels 1 || ltb 8 channels) (Err (Channels channels)) (cond (eqb rate 0) (Err RateZero) (cond (eqb bits 16) (Ok (format channels rate)) (Err (Bits bits))))
 
 terms-in_order : (channels rate : ℕ) → 1 ≤ channels → channels ≤ 8 → 1 ≤ rate → terms channels rate 16 ≡ Ok (format channels rate)
-terms-in_order channels rate some few rated =
-    cond-false (ltb channels 1 || ltb 8 channels) (Err (Channels channels)) (cond (eqb rate 0) (Err RateZero) (Ok (format channels rate))) (or_from _ _ (le-ltb _ _ some) (le-ltb _ _ few))
-    ∙ cond-false (eqb rate 0) (Err RateZero) (Ok (format channels rate)) (ne_eqb _ _ (λ none. omega arith))
+terms-in_order channels rate some few rated = grind (arith, nat_tests)
 
 -- the body of the canonical format chunk
 abbrev format_body : ℕ → ℕ → List ℕ
@@ -53,9 +48,7 @@ format_body channels rate =
 format_of-body : (channels rate : ℕ) → 1 ≤ channels → channels ≤ 8 → 1 ≤ rate → rate < 2 ^ 32 → format_of Sixteen (format_body channels rate) ≡ Ok (format channels rate)
 unfolding format_of terms_of
 format_of-body channels rate some few rated fits =
-    ap (λ (n : ℕ). terms n (from_le_bytes w32 (to_le_bytes w32 rate)) 16) (from_le_bytes-to_le_bytes_2 channels (omega arith))
-    ∙ ap (λ (n : ℕ). terms channels n 16) (from_le_bytes-to_le_bytes_4 rate fits)
-    ∙ terms-in_order channels rate some few rated
+    rw (from_le_bytes-to_le_bytes_2 channels (omega arith), from_le_bytes-to_le_bytes_4 rate fits) (terms-in_order channels rate some few rated)
 
 abbrev format_part : ℕ → ℕ → Chunk
 format_part channels rate = record { name = codes "fmt "; size = 16; body = format_body channels rate }
@@ -74,9 +67,6 @@ unfolding verdict_of
 verdict_of-data f size body = refl
 
 -- ---- the whole file
-
-frames_of : Sound → ℕ
-frames_of s = length s.samples / s.channels
 
 length-body : (s : Sound) → HasFile s → length (flat_map sample_bytes s.samples) ≡ (length s.samples / s.channels) * s.channels * 2
 length-body s file = omega (arith, length-sample_bytes s.samples, div-add-mod' (length s.samples) s.channels, file.sound.whole)
@@ -100,12 +90,12 @@ from_format channels rate size body = codes "fmt " ++ to_le_bytes w32 16 ++ form
 scan_of-data : (f : Format) (size : ℕ) (body : List ℕ) → size < 2 ^ 32 → length body ≤ size → scan_of Sixteen (Some f) (chunks (from_data size body)) ≡ body_found f body
 scan_of-data f size body fits len =
     let all : take (from_le_bytes w32 (to_le_bytes w32 size)) body ≡ body = ap (λ (n : ℕ). take n body) (from_le_bytes-to_le_bytes_4 size fits) ∙ take_all size body len in
-    scan_of-decides Sixteen (Some f) (from_data size body) (body_found f (take (from_le_bytes w32 (to_le_bytes w32 size)) body)) (omega arith) (verdict_of-data f _ _)
+    verdict_of-first Sixteen (Some f) (from_data size body) (decides (body_found f (take (from_le_bytes w32 (to_le_bytes w32 size)) body))) (omega arith) (verdict_of-data f _ _)
     ∙ ap (body_found f) all
 
 scan_of-format : (channels rate size : ℕ) (body : List ℕ) → 1 ≤ channels → channels ≤ 8 → 1 ≤ rate → rate < 2 ^ 32 → size < 2 ^ 32 → length body ≤ size → scan_of Sixteen None (chunks (from_format channels rate size body)) ≡ body_found (format channels rate) body
 scan_of-format channels rate size body some few rated low fits len =
-    scan_of-goes_on Sixteen None (Some (format channels rate)) (from_format channels rate size body) (omega arith) (verdict_of-format channels rate some few rated low)
+    verdict_of-first Sixteen None (from_format channels rate size body) (goes_on (Some (format channels rate))) (omega arith) (verdict_of-format channels rate some few rated low)
     ∙ scan_of-data (format channels rate) size body fits len
 
 found_in-canonical : (s : Sound) → HasFile s → found_in Sixteen (canonical s) ≡ body_found (format s.channels s.rate) (flat_map sample_bytes s.samples)
@@ -134,13 +124,10 @@ wav_file-canonical s file short =
 -- a file that isn't finished is read as the frames that are there
 pub wav_file-open : (channels rate : ℕ) (s : Sound) → HasFile s → s.channels ≡ channels → s.rate ≡ rate → length s.samples * 2 + 44 ≤ most_bytes → wav_file (open_head channels rate ++ flat_map sample_bytes s.samples) ≡ Ok s
 wav_file-open channels rate s file same_channels same_rate short =
-    ap (λ (n : ℕ). wav_file (open_head n rate ++ flat_map sample_bytes s.samples)) (sym same_channels)
-    ∙ ap (λ (n : ℕ). wav_file (open_head s.channels n ++ flat_map sample_bytes s.samples)) (sym same_rate)
-    ∙ ap sounds (limited-short 0 (found_in Sixteen) (open_head s.channels s.rate ++ flat_map sample_bytes s.samples) (omega (arith, short, length-sample_bytes s.samples)) ∙ ap at_end (found_in-open s file (omega (arith, short, length-sample_bytes s.samples))))
-    ∙ ap (λ (t : Sound). Ok t) (sound_of-body s file)
-
-pub wav_file-written : (s : Sound) (bytes : List ℕ) → HasFile s → bytes ≡ canonical s → length bytes ≤ most_bytes → wav_file bytes ≡ Ok s
-wav_file-written s bytes file same short = ap wav_file same ∙ wav_file-canonical s file (omega (arith, ap length same))
+    rw (← same_channels, ← same_rate)
+    (ap sounds (limited-short 0 (found_in Sixteen) (open_head s.channels s.rate ++ flat_map sample_bytes s.samples)
+    (omega (arith, short, length-sample_bytes s.samples)) ∙ ap at_end (found_in-open s file (omega (arith, short, length-sample_bytes s.samples))))
+    ∙ ap (λ (t : Sound). Ok t) (sound_of-body s file))
 
 pub file_from : (s : Sound) (samples : List ℤ) → IsWholeSound s → s.rate < 2 ^ 28 → length s.samples * 2 + 36 < 2 ^ 32 → samples ≡ s.samples → All (FitsSigned w16) samples → HasFile s
 file_from s samples sound low size same fit = record { sound = sound; low_rate = low; size = size; fits = subst (All (FitsSigned w16)) same fit }
@@ -148,9 +135,9 @@ file_from s samples sound low size same fit = record { sound = sound; low_rate =
 -- ---- what is written
 
 pub one_content : (s : Sound) (r : Result (Vec ℕ) WavError) → IfOk r (λ bytes. bytes.items ≡ canonical s) → OnOk r (HasFile s) → IfOk r (λ bytes. (t : Sound) → HasFile t → bytes.items ≡ canonical t → t ≡ s)
-one_content s (Ok bytes) same file = λ t other e. canonical_one t s other file (sym e ∙ same)
+one_content s (Ok bytes) same file = λ t other e. sym (shown-canonical t other) ∙ ap shown (sym e ∙ same) ∙ shown-canonical s file
 one_content s (Err e) same file = tt
 
 pub read_back : (s : Sound) (r : Result (Vec ℕ) WavError) → IfOk r (λ bytes. bytes.items ≡ canonical s) → OnOk r (HasFile s) → IfOk r (λ bytes. length bytes.items ≤ most_bytes → wav_file bytes.items ≡ Ok s)
-read_back s (Ok bytes) same file = λ short. wav_file-written s bytes.items file same short
+read_back s (Ok bytes) same file = λ short. ap wav_file same ∙ wav_file-canonical s file (omega (arith, short, ap length same))
 read_back s (Err e) same file = tt

@@ -1,7 +1,7 @@
 -- What is found in a file of no more bytes than it may have, and in a longer one.
-use Rattle.wav_io.specs.Prelude.{ap, arith, inl, inr, length, length-append, List, None, refl, Some, sym, take, ℕ, ◌++◌, ◌+◌, ◌-◌, ◌<◌, ◌∙◌, ◌≡◌, ◌≤◌}
-use Rattle.wav_io.specs.Prelude.{take-append-add, cases_lt, cond-false, cond-true, le-leb, lt-leb, with_front, at_end, before_end, body_found, ended, Finding}
-use Rattle.wav_io.specs.Prelude.{format_cut, most_bytes, refused, within_limit, with_body}
+use Rattle.wav_io.specs.Prelude.{arith, inl, inr, length, length-append, List, None, refl, Some, take, ℕ, ◌++◌, ◌+◌, ◌-◌, ◌<◌, ◌≡◌, ◌≤◌, take-append-add}
+use Rattle.wav_io.specs.Prelude.{cases_lt, cond-false, cond-true, le-leb, lt-leb, with_front, at_end, before_end, body_found, ended, Finding, format_cut}
+use Rattle.wav_io.specs.Prelude.{most_bytes, refused, within_limit, with_body}
 
 pub limited-short : (seen : ℕ) (find : List ℕ → Finding) (bytes : List ℕ) → seen + length bytes ≤ most_bytes → within_limit seen find bytes ≡ at_end (find bytes)
 unfolding within_limit
@@ -29,16 +29,11 @@ pub limited-append : (seen : ℕ) (old new : List ℕ → Finding) (front piece 
 limited-append seen old new front piece short same more =
     elim (cases_lt most_bytes (seen + length piece + length more)) [
       | inr within ↦
-          limited-short seen old (piece ++ more) (omega (arith, length-append piece more))
-          ∙ ap at_end (same more)
-          ∙ at_end-with_body front (new more)
-          ∙ ap (with_front front) (sym (limited-short (seen + length piece) new more within))
+          rw (limited-short seen old (piece ++ more) (omega (arith, length-append piece more)), same more, limited-short (seen + length piece) new more within)
+          (at_end-with_body front (new more))
       | inl long ↦
           let room : most_bytes - seen ≡ length piece + (most_bytes - (seen + length piece)) = omega arith in
-          limited-long seen old (piece ++ more) (omega (arith, length-append piece more))
-          ∙ ap (λ (n : ℕ). before_end (old (take n (piece ++ more)))) room
-          ∙ ap (λ (bytes : List ℕ). before_end (old bytes)) (take-append-add piece more (most_bytes - (seen + length piece)))
-          ∙ ap before_end (same (take (most_bytes - (seen + length piece)) more))
-          ∙ before_end-with_body front (new (take (most_bytes - (seen + length piece)) more))
-          ∙ ap (with_front front) (sym (limited-long (seen + length piece) new more long))
+          rw (limited-long seen old (piece ++ more) (omega (arith, length-append piece more)), room, take-append-add piece more (most_bytes - (seen + length piece)))
+          (rw (same (take (most_bytes - (seen + length piece)) more), limited-long (seen + length piece) new more long)
+          (before_end-with_body front (new (take (most_bytes - (seen + length piece)) more))))
     ]

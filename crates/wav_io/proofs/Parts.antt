@@ -1,6 +1,6 @@
 -- Frames that are cut between two parts of the data.
-use Rattle.wav_io.specs.Prelude.{ap, append-nil, append_assoc, arith, drop, inl, inr, length, length-append, List, sym, take, ℕ, [], ◌*◌, ◌++◌, ◌+◌, ◌/◌, ◌<◌}
-use Rattle.wav_io.specs.Prelude.{◌∙◌, ◌≡◌, ◌⊎◌, div-mul-le_self, length-drop, length-take, nil_from_length, take-append-drop, div-add-mod', mod_below, min}
+use Rattle.wav_io.specs.Prelude.{ap, append-nil, append_assoc, arith, drop, inl, inr, length, length-append, List, refl, sym, take, ℕ, [], ◌*◌, ◌++◌, ◌+◌, ◌/◌}
+use Rattle.wav_io.specs.Prelude.{◌<◌, ◌∙◌, ◌≡◌, ◌⊎◌, div-mul-le_self, length-drop, length-take, nil_from_length, take-append-drop, div-add-mod', mod_below, min}
 use Rattle.wav_io.specs.Prelude.{IsCut}
 
 -- nothing is after a part that isn't filled
@@ -21,42 +21,26 @@ filled_all size part left before rest same len few =
 pub cut_is : (size : ℕ) (part body first mid behind others rest new left : List ℕ) (n : ℕ) → first ++ (mid ++ behind) ≡ part ++ body → length first ≡ n * size → length mid < size → (mid ≡ []) ⊎ (behind ≡ [])
     → others ≡ take (length behind / size * size) behind → rest ≡ drop (length behind / size * size) behind → new ++ left ≡ mid ++ rest → length new ≡ min size (length mid + length rest)
     → IsCut size part body (first ++ others) new
-cut_is size part body first mid behind others rest new left n all frames less one front back filled len = record {
-  frames = n + length behind / size;
-  all = append_assoc first others new ∙ ap (λ (b : List ℕ). first ++ b) (joined one) ∙ all;
-  whole_frames = omega (arith, length-append first others, frames, count, distribute);
-  less = omega (arith, ap length whole_new, length-append mid rest, short);
-}
-  where
-    some : 0 < size
-    some = omega arith
-
-    count : length others ≡ length behind / size * size
-    count = omega (arith, ap length front, length-take (length behind / size * size) behind, div-mul-le_self (length behind) size)
-
-    distribute : (n + length behind / size) * size ≡ n * size + length behind / size * size
-    distribute = omega arith
-
-    rest_short : length rest < size
-    rest_short = omega (arith, ap length back, rest_less size behind some)
-
-    few : (mid ≡ []) ⊎ (behind ≡ []) → length mid + length rest < size
-    few (inl none) = omega (arith, ap length none, rest_short)
-    few (inr none) = omega (arith, ap length none, ap length back, length-drop (length behind / size * size) behind)
-
-    short : length mid + length rest < size
-    short = few one
-
-    whole_new : new ≡ mid ++ rest
-    whole_new = filled_all size new left mid rest filled len short
-
-    parts : others ++ rest ≡ behind
-    parts = ap (λ (b : List ℕ). b ++ rest) front ∙ ap (λ (b : List ℕ). take (length behind / size * size) behind ++ b) back ∙ take-append-drop (length behind / size * size) behind
-
-    joined : (mid ≡ []) ⊎ (behind ≡ []) → others ++ new ≡ mid ++ behind
-    joined (inl none) =
-        ap (λ (b : List ℕ). others ++ b) (whole_new ∙ ap (λ (b : List ℕ). b ++ rest) none) ∙ parts ∙ ap (λ (b : List ℕ). b ++ behind) (sym none)
-    joined (inr none) =
-        let no_others : others ≡ [] = nil_from_length others (omega (arith, ap length none, ap length front, length-take (length behind / size * size) behind)) in
-        let no_rest : rest ≡ [] = nil_from_length rest (omega (arith, ap length none, ap length back, length-drop (length behind / size * size) behind)) in
-        ap (λ (b : List ℕ). b ++ new) no_others ∙ whole_new ∙ ap (λ (b : List ℕ). mid ++ b) (no_rest ∙ sym none)
+cut_is size part body first mid behind others rest new left n all frames less one front back filled len =
+    let count : length others ≡ length behind / size * size = omega (arith, ap length front, length-take (length behind / size * size) behind, div-mul-le_self (length behind) size) in
+    let distribute : (n + length behind / size) * size ≡ n * size + length behind / size * size = omega arith in
+    let rest_short : length rest < size = omega (arith, ap length back, rest_less size behind (omega arith)) in
+    let short : length mid + length rest < size = elim one [
+      | inl none ↦ omega (arith, ap length none, rest_short)
+      | inr none ↦ omega (arith, ap length none, ap length back, length-drop (length behind / size * size) behind)
+    ] in
+    let whole_new = filled_all size new left mid rest filled len short in
+    let parts : others ++ rest ≡ behind = rw (front, back) (take-append-drop (length behind / size * size) behind) in
+    let joined : others ++ new ≡ mid ++ behind = elim one [
+      | inl none ↦ rw (whole_new, none) parts
+      | inr none ↦
+          let no_others : others ≡ [] = nil_from_length others (omega (arith, ap length none, ap length front, length-take (length behind / size * size) behind)) in
+          let no_rest : rest ≡ [] = nil_from_length rest (omega (arith, ap length none, ap length back, length-drop (length behind / size * size) behind)) in
+          rw (no_others, whole_new, no_rest, none) refl
+    ] in
+    record {
+      frames = n + length behind / size;
+      all = append_assoc first others new ∙ ap (λ (b : List ℕ). first ++ b) joined ∙ all;
+      whole_frames = omega (arith, length-append first others, frames, count, distribute);
+      less = omega (arith, ap length whole_new, length-append mid rest, short);
+    }

@@ -1,15 +1,14 @@
 -- Places in a file, and the steps from one to the next.
-use Rattle.wav_io.specs.Prelude.{ap, append-nil, append_assoc, arith, cond, drop, Err, false, inl, inr, length, length-append, List, ltb, None, Ok, Option}
-use Rattle.wav_io.specs.Prelude.{refl, Result, Some, subst, sym, take, true, ℕ, [], ◌%◌, ◌++◌, ◌+◌, ◌-◌, ◌<◌, ◌∙◌, ◌≡◌, ◌≢◌, ◌≤◌, drop-append-add}
-use Rattle.wav_io.specs.Prelude.{take-append-add, take-append_seam, cases_lt, cond-false, cond-true, le-ltb, lt-ltb, drop-append-le, drop-drop, drop_all}
-use Rattle.wav_io.specs.Prelude.{length-drop, length-take, nil_from_length, take-append-le, take-take, take_all, w32, codes, IfSome, is_some, min, bytes_eq}
-use Rattle.wav_io.specs.Prelude.{WavError, FormatTwice, Memory, NoFormat, NotRiff, NotWave, ShortFormat, Depths, Format, Place, DataBody, FormatBody, Head}
-use Rattle.wav_io.specs.Prelude.{Opening, Refused, Chunk, chunks, number_at, format_of, IsFormat, bytes_after, chunk_of_size, found_from, GoesOn, LeadsTo}
-use Rattle.wav_io.specs.Prelude.{body_found, data_chunk, decides, Finding, finding_after, format_chunk, format_cut, found_in, goes_on, refused, scan_of}
-use Rattle.wav_io.specs.Prelude.{Verdict, verdict_of, verdict_of_format}
+use Rattle.wav_io.specs.Prelude.{ap, append-nil, append_assoc, arith, cond, drop, false, inl, inr, length, length-append, List, ltb, None, Option, refl, Some}
+use Rattle.wav_io.specs.Prelude.{sym, take, true, ℕ, [], ◌%◌, ◌++◌, ◌+◌, ◌-◌, ◌<◌, ◌∙◌, ◌≡◌, ◌≢◌, ◌≤◌, drop-append-add, take-append-add, take-append_seam}
+use Rattle.wav_io.specs.Prelude.{cases_lt, cond-false, le-ltb, lt-ltb, nat_tests, drop-append-le, drop-drop, drop_all, length-drop, length-take}
+use Rattle.wav_io.specs.Prelude.{nil_from_length, take-append-le, take-take, take_all, w32, codes, IfSome, is_some, min, bytes_eq, WavError, FormatTwice}
+use Rattle.wav_io.specs.Prelude.{Memory, NotRiff, NotWave, ShortFormat, Depths, Format, Place, DataBody, FormatBody, Head, Opening, Refused, chunks, number_at}
+use Rattle.wav_io.specs.Prelude.{format_of, IsFormat, bytes_after, chunk_of_size, found_from, GoesOn, LeadsTo, body_found, Finding, finding_after, format_chunk}
+use Rattle.wav_io.specs.Prelude.{format_cut, found_in, refused, scan_of, verdict_of, verdict_of_format}
 use Rattle.std.proofs.lemmas.Slice.{take-put_mid}
 use borrow.Rule.Slice.PartMut.{put_mid}
-use Rattle.wav_io.proofs.Cutting.{scan_of-headed, headed}
+use Rattle.wav_io.proofs.Cutting.{scan_of-headed}
 
 -- ---- places with no byte kept
 
@@ -31,17 +30,11 @@ abbrev format_found : Depths → ℕ → List ℕ → Finding
 format_found depths size more =
     cond (ltb (length more) size) format_cut (finding_after (verdict_of_format (format_of depths (take 40 (take size more)))) (λ f. scan_of depths f (chunks (drop (size + size % 2) more))))
 
-short_body : (size : ℕ) (more : List ℕ) → length more < size → length (take size more) < size
-short_body size more short = omega (arith, length-take size more)
-
-long_body : (size : ℕ) (more : List ℕ) → size ≤ length more → size ≤ length (take size more)
-long_body size more long = omega (arith, length-take size more)
-
 format_found-is : (depths : Depths) (name : List ℕ) (size : ℕ) (more : List ℕ) → 16 ≤ size
     → format_found depths size more ≡ finding_after (format_chunk depths None (chunk_of_size name size more)) (λ f. scan_of depths f (chunks (bytes_after size more)))
 format_found-is depths name size more big = elim (cases_lt (length more) size) [
-  | inl short ↦ rw (lt-ltb (length more) size short, le-ltb size 16 big, lt-ltb (length (take size more)) size (short_body size more short)) refl
-  | inr long ↦ rw (le-ltb (length more) size long, le-ltb size 16 big, le-ltb (length (take size more)) size (long_body size more long)) refl
+  | inl short ↦ rw (lt-ltb (length more) size short, le-ltb size 16 big, lt-ltb (length (take size more)) size (omega (arith, length-take size more))) refl
+  | inr long ↦ rw (le-ltb (length more) size long, le-ltb size 16 big, le-ltb (length (take size more)) size (omega (arith, length-take size more))) refl
 ]
 
 pub leads_twice : (depths : Depths) (format : Option Format) (name : List ℕ) (size : ℕ) → is_some format ≡ true
@@ -51,8 +44,7 @@ leads_twice depths (Some f) name size is = leads_refused depths FormatTwice _ (�
 
 pub leads_first_short : (depths : Depths) (format : Option Format) (name : List ℕ) (size : ℕ) → is_some format ≡ false → size < 16
     → LeadsTo depths (Refused ShortFormat) (λ more. finding_after (format_chunk depths format (chunk_of_size name size more)) (λ f. scan_of depths f (chunks (bytes_after size more))))
-leads_first_short depths None name size is small =
-    leads_refused depths ShortFormat _ (λ more. ap (λ (v : Verdict). finding_after v (λ f. scan_of depths f (chunks (bytes_after size more)))) (sym (cond-true (ltb size 16) (decides (refused ShortFormat)) _ (lt-ltb _ _ small)))) (λ e. cc)
+leads_first_short depths None name size is small = leads_refused depths ShortFormat _ (λ more. rw (lt-ltb size 16 small) refl) (λ e. cc)
 leads_first_short depths (Some f) name size is small = absurd (cc)
 
 pub leads_first : (depths : Depths) (format : Option Format) (name : List ℕ) (size : ℕ) → is_some format ≡ false → 16 ≤ size
@@ -65,108 +57,26 @@ leads_first depths None name size is big = record {
 }
 leads_first depths (Some f) name size is big = absurd (cc)
 
--- ---- a chunk whose head is known, by its name
+-- ---- a chunk whose head is known
 
-verdict_of-format : (depths : Depths) (format : Option Format) (chunk : Chunk) → bytes_eq chunk.name (codes "fmt ") ≡ true → verdict_of depths format chunk ≡ format_chunk depths format chunk
-unfolding verdict_of
-verdict_of-format depths format chunk is = cond-true _ _ _ is
-
-verdict_of-data : (depths : Depths) (format : Option Format) (chunk : Chunk) → bytes_eq chunk.name (codes "fmt ") ≡ false → bytes_eq chunk.name (codes "data") ≡ true → verdict_of depths format chunk ≡ data_chunk format chunk
-unfolding verdict_of
-verdict_of-data depths format chunk isnt is = cond-false _ _ _ isnt ∙ cond-true _ _ _ is
-
-verdict_of-other : (depths : Depths) (format : Option Format) (chunk : Chunk) → bytes_eq chunk.name (codes "fmt ") ≡ false → bytes_eq chunk.name (codes "data") ≡ false → verdict_of depths format chunk ≡ goes_on format
-unfolding verdict_of
-verdict_of-other depths format chunk isnt not = cond-false _ _ _ isnt ∙ cond-false _ _ _ not
-
--- another reading of what follows
-pub leads_as : (depths : Depths) (place : Place) (find other : List ℕ → Finding) → LeadsTo depths place find → ((more : List ℕ) → find more ≡ other more) → LeadsTo depths place other
-leads_as depths place find other leads is = record { same = λ more. leads.same more ∙ is more; place = leads.place; opened = leads.opened }
-
--- the result of scanning the chunks after a head
-abbrev after : Depths → Option Format → List ℕ → List ℕ → Finding
-after depths format head more = scan_of depths format (chunks (head ++ more))
-
-after-verdict_of : (depths : Depths) (format : Option Format) (head : List ℕ) → length head ≡ 8 → (v : List ℕ → Verdict) → ((more : List ℕ) → verdict_of depths format (headed head more) ≡ v more)
-    → (more : List ℕ) → finding_after (v more) (λ f. scan_of depths f (chunks (bytes_after (number_at w32 4 head) more))) ≡ after depths format head more
-after-verdict_of depths format head eight v is more =
-    sym (scan_of-headed depths format head more eight ∙ ap (λ (w : Verdict). finding_after w (λ f. scan_of depths f (chunks (bytes_after (number_at w32 4 head) more)))) (is more))
-
-pub leads_by_format : (depths : Depths) (format : Option Format) (head : List ℕ) (place : Place) → length head ≡ 8 → bytes_eq (take 4 head) (codes "fmt ") ≡ true
-    → LeadsTo depths place (λ more. finding_after (format_chunk depths format (headed head more)) (λ f. scan_of depths f (chunks (bytes_after (number_at w32 4 head) more))))
+-- where a head leads is where the verdict on its chunk does
+pub leads_by : (depths : Depths) (format : Option Format) (head : List ℕ) (size : ℕ) (place : Place) → length head ≡ 8 → size ≡ number_at w32 4 head
+    → LeadsTo depths place (λ more. finding_after (verdict_of depths format (chunk_of_size (take 4 head) size more)) (λ f. scan_of depths f (chunks (bytes_after size more))))
     → LeadsTo depths place (λ more. scan_of depths format (chunks (head ++ more)))
-leads_by_format depths format head place eight is leads =
-    leads_as depths place _ _ leads (after-verdict_of depths format head eight (λ more. format_chunk depths format (headed head more)) (λ more. verdict_of-format depths format (headed head more) is))
-
--- the size as the head gives it
-pub leads_at_size : (depths : Depths) (format : Option Format) (head : List ℕ) (size : ℕ) (place : Place) → size ≡ number_at w32 4 head
-    → LeadsTo depths place (λ more. finding_after (format_chunk depths format (chunk_of_size (take 4 head) size more)) (λ f. scan_of depths f (chunks (bytes_after size more))))
-    → LeadsTo depths place (λ more. finding_after (format_chunk depths format (headed head more)) (λ f. scan_of depths f (chunks (bytes_after (number_at w32 4 head) more))))
-leads_at_size depths format head size place is leads =
-    subst (λ (n : ℕ). LeadsTo depths place (λ more. finding_after (format_chunk depths format (chunk_of_size (take 4 head) n more)) (λ f. scan_of depths f (chunks (bytes_after n more))))) is leads
-
-pub leads_by_data : (depths : Depths) (f : Format) (head : List ℕ) → length head ≡ 8 → bytes_eq (take 4 head) (codes "fmt ") ≡ false → bytes_eq (take 4 head) (codes "data") ≡ true → IsFormat f
-    → LeadsTo depths (DataBody f (number_at w32 4 head)) (λ more. scan_of depths (Some f) (chunks (head ++ more)))
-leads_by_data depths f head eight isnt is in_order =
-    leads_data depths f (number_at w32 4 head) _ (after-verdict_of depths (Some f) head eight (λ more. data_chunk (Some f) (headed head more)) (λ more. verdict_of-data depths (Some f) (headed head more) isnt is)) in_order
-
-pub leads_by_no_format : (depths : Depths) (head : List ℕ) → length head ≡ 8 → bytes_eq (take 4 head) (codes "fmt ") ≡ false → bytes_eq (take 4 head) (codes "data") ≡ true
-    → LeadsTo depths (Refused NoFormat) (λ more. scan_of depths None (chunks (head ++ more)))
-leads_by_no_format depths head eight isnt is =
-    leads_refused depths NoFormat _ (after-verdict_of depths None head eight (λ more. data_chunk None (headed head more)) (λ more. verdict_of-data depths None (headed head more) isnt is)) (λ e. cc)
-
-pub leads_by_other : (depths : Depths) (format : Option Format) (head : List ℕ) → length head ≡ 8 → bytes_eq (take 4 head) (codes "fmt ") ≡ false → bytes_eq (take 4 head) (codes "data") ≡ false → IfSome format IsFormat
-    → LeadsTo depths (Head format (number_at w32 4 head + number_at w32 4 head % 2)) (λ more. scan_of depths format (chunks (head ++ more)))
-leads_by_other depths format head eight isnt not in_order =
-    leads_head depths format _ _ (after-verdict_of depths format head eight (λ more. goes_on format) (λ more. verdict_of-other depths format (headed head more) isnt not)) in_order
+leads_by depths format head size place eight is leads =
+    record { same = λ more. leads.same more ∙ rw is (sym (scan_of-headed depths format head more eight)); place = leads.place; opened = leads.opened }
 
 -- ---- the first twelve bytes
 
-pub found_in-riff : (depths : Depths) (bytes : List ℕ) → bytes_eq (take 4 bytes) (codes "RIFF") ≡ false → found_in depths bytes ≡ refused NotRiff
+pub found_in-front : (depths : Depths) (bytes more : List ℕ) → length bytes ≡ 12
+    → found_in depths (bytes ++ more)
+    ≡ cond (bytes_eq (take 4 bytes) (codes "RIFF")) (cond (bytes_eq (take 4 (drop 8 bytes)) (codes "WAVE")) (scan_of depths None (chunks more)) (refused NotWave)) (refused NotRiff)
 unfolding found_in
-found_in-riff depths bytes isnt = cond-false _ _ _ isnt
-
-pub found_in-wave : (depths : Depths) (bytes : List ℕ) → bytes_eq (take 4 bytes) (codes "RIFF") ≡ true → bytes_eq (take 4 (drop 8 bytes)) (codes "WAVE") ≡ false → found_in depths bytes ≡ refused NotWave
-unfolding found_in
-found_in-wave depths bytes is isnt = cond-true _ _ _ is ∙ cond-false _ _ _ isnt
-
-found_in-chunks : (depths : Depths) (bytes : List ℕ) → bytes_eq (take 4 bytes) (codes "RIFF") ≡ true → bytes_eq (take 4 (drop 8 bytes)) (codes "WAVE") ≡ true → found_in depths bytes ≡ scan_of depths None (chunks (drop 12 bytes))
-unfolding found_in
-found_in-chunks depths bytes is also = cond-true _ _ _ is ∙ cond-true _ _ _ also
-
-riff_front : (bytes more : List ℕ) → length bytes ≡ 12 → take 4 (bytes ++ more) ≡ take 4 bytes
-riff_front bytes more twelve = take-append-le 4 bytes more (omega arith)
-
-wave_front : (bytes more : List ℕ) → length bytes ≡ 12 → take 4 (drop 8 (bytes ++ more)) ≡ take 4 (drop 8 bytes)
-wave_front bytes more twelve =
-    ap (take 4) (drop-append-le 8 bytes more (omega arith)) ∙ take-append-le 4 (drop 8 bytes) more (omega (arith, length-drop 8 bytes))
-
-chunks_front : (bytes more : List ℕ) → length bytes ≡ 12 → drop 12 (bytes ++ more) ≡ more
-chunks_front bytes more twelve = drop-append-le 12 bytes more (omega arith) ∙ ap (λ (b : List ℕ). b ++ more) (drop_all 12 bytes (omega arith))
-
-pub leads_not_riff : (depths : Depths) (bytes : List ℕ) → length bytes ≡ 12 → bytes_eq (take 4 bytes) (codes "RIFF") ≡ false → LeadsTo depths (Refused NotRiff) (λ more. found_in depths (bytes ++ more))
-leads_not_riff depths bytes twelve isnt =
-    leads_refused depths NotRiff _ (λ more. sym (found_in-riff depths (bytes ++ more) (ap (λ (b : List ℕ). bytes_eq b (codes "RIFF")) (riff_front bytes more twelve) ∙ isnt))) (λ e. cc)
-
-pub leads_not_wave : (depths : Depths) (bytes : List ℕ) → length bytes ≡ 12 → bytes_eq (take 4 bytes) (codes "RIFF") ≡ true → bytes_eq (take 4 (drop 8 bytes)) (codes "WAVE") ≡ false → LeadsTo depths (Refused NotWave) (λ more. found_in depths (bytes ++ more))
-leads_not_wave depths bytes twelve is isnt =
-    leads_refused depths NotWave _ (λ more. sym (found_in-wave depths (bytes ++ more) (ap (λ (b : List ℕ). bytes_eq b (codes "RIFF")) (riff_front bytes more twelve) ∙ is) (ap (λ (b : List ℕ). bytes_eq b (codes "WAVE")) (wave_front bytes more twelve) ∙ isnt))) (λ e. cc)
-
-pub leads_opened : (depths : Depths) (bytes : List ℕ) → length bytes ≡ 12 → bytes_eq (take 4 bytes) (codes "RIFF") ≡ true → bytes_eq (take 4 (drop 8 bytes)) (codes "WAVE") ≡ true → LeadsTo depths (Head None 0) (λ more. found_in depths (bytes ++ more))
-leads_opened depths bytes twelve is also =
-    leads_head depths None 0 _ (λ more. sym (found_in-chunks depths (bytes ++ more) (ap (λ (b : List ℕ). bytes_eq b (codes "RIFF")) (riff_front bytes more twelve) ∙ is) (ap (λ (b : List ℕ). bytes_eq b (codes "WAVE")) (wave_front bytes more twelve) ∙ also) ∙ ap (λ (b : List ℕ). scan_of depths None (chunks b)) (chunks_front bytes more twelve))) tt
-
--- ---- the body of a format chunk
-
-pub leads_in_order : (depths : Depths) (pad : ℕ) (body : List ℕ) (f : Format) → format_of depths body ≡ Ok f → IsFormat f
-    → LeadsTo depths (Head (Some f) pad) (λ more. finding_after (verdict_of_format (format_of depths body)) (λ g. scan_of depths g (chunks (drop pad more))))
-leads_in_order depths pad body f is in_order =
-    leads_head depths (Some f) pad _ (λ more. sym (ap (λ (r : Result Format WavError). finding_after (verdict_of_format r) (λ g. scan_of depths g (chunks (drop pad more)))) is)) in_order
-
-pub leads_out_of_order : (depths : Depths) (pad : ℕ) (body : List ℕ) (e : WavError) → format_of depths body ≡ Err e → e ≢ Memory
-    → LeadsTo depths (Refused e) (λ more. finding_after (verdict_of_format (format_of depths body)) (λ g. scan_of depths g (chunks (drop pad more))))
-leads_out_of_order depths pad body e is other =
-    leads_refused depths e _ (λ more. sym (ap (λ (r : Result Format WavError). finding_after (verdict_of_format r) (λ g. scan_of depths g (chunks (drop pad more)))) is)) other
+found_in-front depths bytes more twelve =
+    let wave : take 4 (drop 8 (bytes ++ more)) ≡ take 4 (drop 8 bytes) =
+    ap (take 4) (drop-append-le 8 bytes more (omega arith)) ∙ take-append-le 4 (drop 8 bytes) more (omega (arith, length-drop 8 bytes)) in
+    let chunks_are : drop 12 (bytes ++ more) ≡ more = drop-append-le 12 bytes more (omega arith) ∙ ap (λ (b : List ℕ). b ++ more) (drop_all 12 bytes (omega arith)) in
+    rw (take-append-le 4 bytes more (omega arith), wave, chunks_are) refl
 
 -- ---- steps
 
@@ -176,11 +86,7 @@ regroup a b c d more same = sym (append_assoc a b more) ∙ ap (λ (front : List
 
 pub goes_on-leads : (depths : Depths) (old : Place) (before bytes : List ℕ) (new : Place) (rest : List ℕ) (find : List ℕ → Finding) → LeadsTo depths new find
     → ((more : List ℕ) → find (rest ++ more) ≡ found_from depths old before (bytes ++ more)) → GoesOn depths old before bytes new [] rest
-goes_on-leads depths old before bytes new rest find leads same = record {
-  same = λ more. leads.same (rest ++ more) ∙ same more;
-  place = leads.place;
-  seen = λ n was. leads.opened rest n;
-}
+goes_on-leads depths old before bytes new rest find leads same = grind (arith, nat_tests)
 
 pub opening-stays : (depths : Depths) (before bytes after rest : List ℕ) → after ++ rest ≡ before ++ bytes → length after < 12 → GoesOn depths Opening before bytes Opening after rest
 unfolding found_from
@@ -211,8 +117,8 @@ head-leads depths format before bytes head rest new same leads =
 -- what is skipped in two parts
 skipped : (skip gone : ℕ) (bytes more : List ℕ) → gone ≤ skip → gone ≤ length bytes → drop (skip - gone) (drop gone bytes ++ more) ≡ drop skip (bytes ++ more)
 skipped skip gone bytes more few inside =
-    ap (drop (skip - gone)) (sym (drop-append-le gone bytes more inside)) ∙ drop-drop (skip - gone) gone (bytes ++ more)
-    ∙ ap (λ (n : ℕ). drop n (bytes ++ more)) (omega arith)
+    let sum : gone + (skip - gone) ≡ skip = omega arith in
+    rw (← drop-append-le gone bytes more inside, drop-drop (skip - gone) gone (bytes ++ more), sum) refl
 
 pub gap-stays : (depths : Depths) (format : Option Format) (skip gone : ℕ) (kept bytes : List ℕ) → gone ≤ skip → gone ≤ length bytes → (length kept < 8) × IfSome format IsFormat
     → GoesOn depths (Head format skip) kept bytes (Head format (skip - gone)) kept (drop gone bytes)
@@ -239,13 +145,12 @@ filled len count k held front behind bytes now view inside some all =
 -- bytes of which the first forty are kept
 pub front_is : (want : ℕ) (kept rest before body : List ℕ) → kept ++ rest ≡ before ++ body → length kept ≡ min want (length before + length body) → kept ≡ take want (before ++ body)
 front_is want kept rest before body same len =
+    let all : length kept + length rest ≡ length before + length body = omega (arith, ap length same, length-append kept rest, length-append before body) in
     elim (cases_lt want (length kept + length rest)) [
       | inl more ↦
-          let all : length kept + length rest ≡ length before + length body = omega (arith, ap length same, length-append kept rest, length-append before body) in
           let full : want ≡ length kept = omega (arith, all, len) in
           sym (ap (λ (n : ℕ). take n (kept ++ rest)) full ∙ take-append_seam kept rest) ∙ ap (take want) same
       | inr within ↦
-          let all : length kept + length rest ≡ length before + length body = omega (arith, ap length same, length-append kept rest, length-append before body) in
           let none : length rest ≡ 0 = omega (arith, all, len) in
           sym (append-nil kept) ∙ ap (λ (b : List ℕ). kept ++ b) (sym (nil_from_length rest none)) ∙ same ∙ sym (take_all want (before ++ body) (omega (arith, all, length-append before body)))
     ]
@@ -266,18 +171,13 @@ unfolding found_from
 body-stays depths missing pad before bytes after kept few place =
     record { same = same; place = (omega arith, omega (arith, ap length kept, length-take 40 (before ++ bytes)), omega (arith, ap length kept, length-take 40 (before ++ bytes), length-append before bytes)); seen = λ n was. tt }
   where
-    left : ℕ
-    left = missing - length bytes
-
     whole : missing ≡ length bytes + (missing - length bytes)
     whole = omega arith
 
     body : (more : List ℕ) → take 40 (after ++ take (missing - length bytes) more) ≡ take 40 (before ++ take missing (bytes ++ more))
     body more =
-        ap (λ (a : List ℕ). take 40 (a ++ take (missing - length bytes) more)) kept
-        ∙ take-take_front 40 (before ++ bytes) (take (missing - length bytes) more)
-        ∙ ap (take 40) (append_assoc before bytes (take (missing - length bytes) more))
-        ∙ ap (λ (b : List ℕ). take 40 (before ++ b)) (sym (ap (λ (n : ℕ). take n (bytes ++ more)) whole ∙ take-append-add bytes more (missing - length bytes)))
+        rw (kept, take-take_front 40 (before ++ bytes) (take (missing - length bytes) more), append_assoc before bytes (take (missing - length bytes) more))
+        (rw (← take-append-add bytes more (missing - length bytes), ← whole) refl)
 
     later : (more : List ℕ) → drop ((missing - length bytes) + pad) more ≡ drop (missing + pad) (bytes ++ more)
     later more =

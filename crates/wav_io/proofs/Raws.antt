@@ -1,23 +1,14 @@
 -- Readers of the bytes of a file's samples.
-use Rattle.wav_io.specs.Prelude.{ap, append-nil, append_assoc, arith, Err, false, inl, inr, length, List, None, Ok, refl, Result, Some, subst, sym, true, ℕ, []}
-use Rattle.wav_io.specs.Prelude.{◌%◌, ◌*◌, ◌++◌, ◌+◌, ◌/◌, ◌<◌, ◌∙◌, ◌≡◌, ◌≤◌, div-mul-le_self, mul-le-mul_left, mul-mod_left, cases_Bool, cases_lt, cond-true}
-use Rattle.wav_io.specs.Prelude.{length-take-le, IsOk, WavError, Memory, UpTo32, Format, Place, DataBody, whole, is_accepted, IsFormat, IsCut, found_from}
-use Rattle.wav_io.specs.Prelude.{with_front, error_of, IsOfHead, IsPart, Raw, raw_frame, raw_to_come, raws, Reader, rest_of, with_bytes, Contents, most_bytes}
-use Rattle.wav_io.specs.Prelude.{IsScan, refusal_of, to_come}
-use Rattle.std.proofs.lemmas.Bool.Decides.{nat_tests}
+use Rattle.wav_io.specs.Prelude.{ap, append-nil, append_assoc, arith, Err, false, inl, inr, length, List, None, Ok, refl, Result, Some, subst, sym, ℕ, [], ◌%◌}
+use Rattle.wav_io.specs.Prelude.{◌*◌, ◌++◌, ◌+◌, ◌/◌, ◌<◌, ◌∙◌, ◌≡◌, div-mul-le_self, mul-mod_left, cases_Bool, cases_lt, cond-true, nat_tests, length-take-le}
+use Rattle.wav_io.specs.Prelude.{IsOk, WavError, Memory, UpTo32, Format, Place, DataBody, whole, IsFormat, IsCut, found_from, with_front, error_of, IsOfHead}
+use Rattle.wav_io.specs.Prelude.{IsPart, Raw, raw_frame, raw_to_come, raws, Reader, rest_of, with_bytes, Contents, most_bytes, IsScan, refusal_of, to_come}
 use Rattle.wav_io.proofs.Limits.{limited-short, limited-long}
 use Rattle.wav_io.proofs.Readers.{fed_comes, cut-whole, whole-less, format_comes}
 use Rattle.wav_io.proofs.Scans.{ends_at, ends_data}
 
--- the bits of a sample
-bits_range : (bits : ℕ) → is_accepted UpTo32 bits ≡ true → (8 ≤ bits) × (bits ≤ 32)
-bits_range bits is = (grind (arith, nat_tests), grind (arith, nat_tests))
-
 pub raw_frame-some : (f : Format) → IsFormat f → 0 < raw_frame f
-raw_frame-some f in_order =
-    let range = bits_range f.bits in_order.whole_bytes in
-    let bytes : 1 ≤ f.bits / 8 = omega (arith, range.0) in
-    omega (arith, mul-le-mul_left f.channels bytes, in_order.some_channel)
+raw_frame-some f in_order = grind (arith, nat_tests)
 
 pub raws-frames : (r : Result Contents WavError) (s : Raw) → raws r ≡ Ok s → length s.body % (s.channels * (s.bits / 8)) ≡ 0
 raws-frames (Ok c) s is =
@@ -41,10 +32,8 @@ pub some_raw : (old new : Reader) (f : Format) (n : ℕ) (piece body bytes items
     → (more : List ℕ) → to_come UpTo32 old.scan (piece ++ more) ≡ with_front body (to_come UpTo32 new.scan more)
     → with_bytes items (raws (rest_of UpTo32 old (piece ++ more))) ≡ with_bytes after (raws (rest_of UpTo32 new more))
 some_raw old new f n piece body bytes items after fed still is some cut appended more come =
-    ap (λ (r : Result Contents WavError). with_bytes items (raws r)) (fed_comes UpTo32 old (piece ++ more) fed ∙ ap (with_front old.part) come)
-    ∙ raws-cut f old.part body bytes new.part items (to_come UpTo32 new.scan more) cut some (format_comes UpTo32 new.scan f n is more)
-    ∙ ap (λ (r : Result Contents WavError). with_bytes (items ++ bytes) (raws r)) (sym (fed_comes UpTo32 new more still))
-    ∙ ap (λ (zs : List ℕ). with_bytes zs (raws (rest_of UpTo32 new more))) (sym appended)
+    rw (appended, fed_comes UpTo32 old (piece ++ more) fed, fed_comes UpTo32 new more still, come)
+    (raws-cut f old.part body bytes new.part items (to_come UpTo32 new.scan more) cut some (format_comes UpTo32 new.scan f n is more))
 
 pub ends_raw : (r : Reader) (f : Format) (n : ℕ) → r.starved ≡ false → r.scan.place ≡ DataBody f n → IsPart raw_frame r.scan.place r.part → to_come UpTo32 r.scan [] ≡ Ok (record { format = f; body = [] })
     → raw_to_come r [] ≡ Ok (record { channels = f.channels; rate = f.rate; bits = f.bits; body = [] })

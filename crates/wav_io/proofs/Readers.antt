@@ -1,11 +1,10 @@
 -- Readers of a file in pieces.
 use Rattle.wav_io.specs.Prelude.{ap, append-nil, append_assoc, arith, Err, false, inl, inr, length, length-append, List, None, Ok, Option, refl, Result, Some}
 use Rattle.wav_io.specs.Prelude.{subst, suc, sym, take, true, zero, ℕ, ℤ, [], ◌%◌, ◌*◌, ◌++◌, ◌+◌, ◌/◌, ◌<◌, ◌∙◌, ◌∷◌, ◌≡◌, ◌≢◌, div-eq_of_lt}
-use Rattle.wav_io.specs.Prelude.{mul-add-div_right, take-append-add, cases_Bool, cases_lt, cond-false, cond-true, cast_signed, from_le_bytes, w16, IfSome}
-use Rattle.wav_io.specs.Prelude.{WavError, Bits, Channels, FormatTwice, Memory, NoData, NoFormat, NotRiff, NotWave, RateZero, ShortFormat, Tag, TooLong, Depths}
-use Rattle.wav_io.specs.Prelude.{Sixteen, Format, Place, DataBody, Opening, Refused, Part, Scan, samples_of_bytes, whole, IsCut, found_from, with_front}
-use Rattle.wav_io.specs.Prelude.{error_of, IsPart, Reader, rest_of, sound_to_come, wav_frame, with_samples, Contents, contents, IsRefusal, most_bytes, sound_of}
-use Rattle.wav_io.specs.Prelude.{sounds, wav_file, FollowsData, IsScan, refusal_of, to_come, Sound}
+use Rattle.wav_io.specs.Prelude.{mul-add-div_right, take-append-add, cases_Bool, cases_lt, cond-false, cond-true, nat_tests, cast_signed, from_le_bytes, w16}
+use Rattle.wav_io.specs.Prelude.{IfSome, WavError, Memory, Depths, Sixteen, Format, Place, DataBody, Opening, Refused, Part, Scan, samples_of_bytes, whole}
+use Rattle.wav_io.specs.Prelude.{IsCut, found_from, with_front, error_of, IsPart, Reader, rest_of, sound_to_come, wav_frame, with_samples, Contents, contents}
+use Rattle.wav_io.specs.Prelude.{IsRefusal, most_bytes, sound_of, sounds, wav_file, FollowsData, IsScan, refusal_of, to_come, Sound}
 use Rattle.wav_io.proofs.Bodies.{whole_frames-whole}
 use Rattle.wav_io.proofs.Limits.{limited-short, limited-long}
 use Rattle.wav_io.proofs.Places.{regroup}
@@ -38,23 +37,15 @@ sounds-frames (Err e) s is = absurd (cc)
 
 -- ---- the first piece, and one that brings no data
 
-pub new_rest : (depths : Depths) (bytes : List ℕ) → rest_of depths (record { scan = record { place = Opening; kept = []; seen = 0 }; part = []; starved = false }) bytes ≡ contents depths bytes
-unfolding rest_of found_from
-new_rest depths bytes = with_front-nil (contents depths bytes)
-
 pub new_comes : (depths : Depths) (s : Scan) (part bytes : List ℕ) → s ≡ record { place = Opening; kept = []; seen = 0 } → part ≡ [] → rest_of depths (record { scan = s; part = part; starved = false }) bytes ≡ contents depths bytes
-new_comes depths s part bytes is none =
-    ap (λ (t : Scan). rest_of depths (record { scan = t; part = part; starved = false }) bytes) is
-    ∙ ap (λ (p : List ℕ). rest_of depths (record { scan = record { place = Opening; kept = []; seen = 0 }; part = p; starved = false }) bytes) none
-    ∙ new_rest depths bytes
+unfolding rest_of found_from
+new_comes depths s part bytes is none = rw (is, none) (with_front-nil (contents depths bytes))
 
 pub no_data : (depths : Depths) (old new : Reader) (bytes more : List ℕ) → old.starved ≡ false → new.starved ≡ false → new.part ≡ old.part → to_come depths old.scan (bytes ++ more) ≡ with_front [] (to_come depths new.scan more)
     → rest_of depths old (bytes ++ more) ≡ rest_of depths new more
 no_data depths old new bytes more fed still same come =
-    fed_comes depths old (bytes ++ more) fed
-    ∙ ap (with_front old.part) (come ∙ with_front-nil (to_come depths new.scan more))
-    ∙ ap (λ (p : List ℕ). with_front p (to_come depths new.scan more)) (sym same)
-    ∙ sym (fed_comes depths new more still)
+    rw (fed_comes depths old (bytes ++ more) fed, fed_comes depths new more still, come, with_front-nil (to_come depths new.scan more))
+    (ap (λ (p : List ℕ). with_front p (to_come depths new.scan more)) (sym same))
 
 pub refused_rest : (depths : Depths) (old : Reader) (bytes : List ℕ) (e : WavError) → old.starved ≡ false → to_come depths old.scan bytes ≡ Err e → rest_of depths old bytes ≡ Err e
 refused_rest depths old bytes e fed is = fed_comes depths old bytes fed ∙ ap (with_front old.part) is
@@ -113,10 +104,8 @@ pub some_data : (old new : Reader) (f : Format) (n : ℕ) (piece body bytes : Li
     → (more : List ℕ) → to_come Sixteen old.scan (piece ++ more) ≡ with_front body (to_come Sixteen new.scan more)
     → with_samples items (sounds (rest_of Sixteen old (piece ++ more))) ≡ with_samples after (sounds (rest_of Sixteen new more))
 some_data old new f n piece body bytes items after fed still is some cut appended more come =
-    ap (λ (r : Result Contents WavError). with_samples items (sounds r)) (fed_comes Sixteen old (piece ++ more) fed ∙ ap (with_front old.part) come)
-    ∙ sounds-cut f old.part body bytes new.part items (to_come Sixteen new.scan more) cut some (format_comes Sixteen new.scan f n is more)
-    ∙ ap (λ (r : Result Contents WavError). with_samples (items ++ samples_of_bytes bytes) (sounds r)) (sym (fed_comes Sixteen new more still))
-    ∙ ap (λ (zs : List ℤ). with_samples zs (sounds (rest_of Sixteen new more))) (sym appended)
+    rw (appended, fed_comes Sixteen old (piece ++ more) fed, fed_comes Sixteen new more still, come)
+    (sounds-cut f old.part body bytes new.part items (to_come Sixteen new.scan more) cut some (format_comes Sixteen new.scan f n is more))
 
 -- where memory was wanted the file isn't refused so far
 pub not_refused : (depths : Depths) (old : Reader) (scan : Scan) (f : Format) (n : ℕ) (piece body : List ℕ) → old.starved ≡ false → IsScan scan → scan.place ≡ DataBody f n
@@ -146,16 +135,9 @@ error_comes depths r e is more =
           refused_rest depths r more e fed (refused_comes depths r.scan e place more)
     ]
 
--- a scan that goes on was at no refusal
-refusal_of-followed : (place : Place) (part : Option Part) → FollowsData place (Ok part) → refusal_of place ≡ None
-refusal_of-followed (Refused e) part follows = absurd follows
-refusal_of-followed place part follows = refl
-
 -- whatever a reader's error implies holds where its scan goes on, since there is none
 pub error_of-followed : (P : WavError → Type 0) (r now : Reader) (part : Option Part) → r ≡ now → r.starved ≡ false → FollowsData r.scan.place (Ok part) → IfSome (error_of now) P
-error_of-followed P r now part same fed follows =
-    let none : error_of r ≡ None = cond-false r.starved (Some Memory) (refusal_of r.scan.place) fed ∙ refusal_of-followed r.scan.place part follows in
-    rw (← same, none) tt
+error_of-followed P r now part same fed follows = grind (arith, nat_tests)
 
 -- ---- a file in one piece
 
@@ -188,12 +170,9 @@ ends_fed r f n fed is part come =
     ap sounds (fed_comes Sixteen r [] fed ∙ ap (with_front r.part) come)
     ∙ ap (λ (b : List ℕ). Ok (record { channels = f.channels; rate = f.rate; samples = samples_of_bytes b })) (whole-less (wav_frame f) (r.part ++ []) less)
 
-again_at : (depths : Depths) (r : Reader) (e : WavError) (o : Option WavError) → error_of r ≡ o → rest_of depths r [] ≡ Err e → IfSome o (λ d. e ≡ d)
+pub again_at : (depths : Depths) (r : Reader) (e : WavError) (o : Option WavError) → error_of r ≡ o → rest_of depths r [] ≡ Err e → IfSome o (λ d. e ≡ d)
 again_at depths r e None is come = tt
 again_at depths r e (Some d) is come = let same = sym come ∙ error_comes depths r d is [] in cc
-
-pub again_from : (depths : Depths) (r : Reader) (e : WavError) → rest_of depths r [] ≡ Err e → IfSome (error_of r) (λ d. e ≡ d)
-again_from depths r e come = again_at depths r e (error_of r) refl come
 
 pub IfSome-weaker : (o : Option WavError) (P Q : WavError → Type 0) → ((e : WavError) → P e → Q e) → IfSome o P → IfSome o Q
 IfSome-weaker None P Q f h = tt
@@ -201,14 +180,4 @@ IfSome-weaker (Some e) P Q f h = f e h
 
 pub refusal_from : (e : WavError) (given : Result Sound WavError) → (e ≢ Memory → given ≡ Err e) → IsRefusal e given
 refusal_from Memory given h = tt
-refusal_from NotRiff given h = h (λ is. cc)
-refusal_from NotWave given h = h (λ is. cc)
-refusal_from NoFormat given h = h (λ is. cc)
-refusal_from FormatTwice given h = h (λ is. cc)
-refusal_from ShortFormat given h = h (λ is. cc)
-refusal_from (Tag n) given h = h (λ is. cc)
-refusal_from (Bits n) given h = h (λ is. cc)
-refusal_from (Channels n) given h = h (λ is. cc)
-refusal_from RateZero given h = h (λ is. cc)
-refusal_from NoData given h = h (λ is. cc)
-refusal_from TooLong given h = h (λ is. cc)
+refusal_from e given h = h (λ is. cc)

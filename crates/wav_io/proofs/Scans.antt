@@ -1,14 +1,13 @@
 -- How far a file is read: some bytes, up to the limit, and the end.
-use Rattle.wav_io.specs.Prelude.{ap, append-nil, arith, Err, false, inl, inr, length, length-append, List, ltb, None, Ok, Option, refl, Some, subst, sym, take}
-use Rattle.wav_io.specs.Prelude.{true, ℕ, [], ◌++◌, ◌+◌, ◌-◌, ◌<◌, ◌∙◌, ◌≡◌, ◌≤◌, take-append-add, cases_lt, cond-true, lt-ltb, drop_all, length-take}
-use Rattle.wav_io.specs.Prelude.{take-append-le, take_all, codes, min, bytes_eq, WavError, NotRiff, NotWave, TooLong, Depths, Format, Place, DataBody}
-use Rattle.wav_io.specs.Prelude.{FormatBody, Head, Opening, Refused, Part, Scan, chunks, found_from, GoesOn, HasSeen, IsSoundPlace, IsWalked, with_front}
-use Rattle.wav_io.specs.Prelude.{at_end, before_end, body_found, ended, Finding, format_cut, found_in, most_bytes, refused, scan_of, within_limit}
-use Rattle.wav_io.specs.Prelude.{ContinuesData, FollowsData, GoesThrough, IsAfterData, IsScan, part_bytes, to_come, with_body}
+use Rattle.wav_io.specs.Prelude.{ap, append-nil, arith, Err, false, inl, inr, length, length-append, List, None, Ok, Option, refl, Some, subst, sym, take, true}
+use Rattle.wav_io.specs.Prelude.{ℕ, [], ◌++◌, ◌+◌, ◌-◌, ◌<◌, ◌∙◌, ◌≡◌, ◌≤◌, take-append-add, cases_lt, lt-ltb, nat_tests, drop_all, length-take, take-append-le}
+use Rattle.wav_io.specs.Prelude.{take_all, codes, min, bytes_eq, WavError, NotRiff, NotWave, TooLong, Depths, Format, Place, DataBody, FormatBody, Head}
+use Rattle.wav_io.specs.Prelude.{Opening, Refused, Part, Scan, found_from, GoesOn, HasSeen, IsSoundPlace, IsWalked, with_front, at_end, before_end, body_found}
+use Rattle.wav_io.specs.Prelude.{ended, Finding, format_cut, found_in, most_bytes, refused, scan_of, within_limit, ContinuesData, FollowsData, GoesThrough}
+use Rattle.wav_io.specs.Prelude.{IsAfterData, IsScan, part_bytes, to_come, with_body}
 use Rattle.wav_io.proofs.Bodies.{no_room}
-use Rattle.wav_io.proofs.Cutting.{scan_of-ended}
+use Rattle.wav_io.proofs.Cutting.{chunks-none}
 use Rattle.wav_io.proofs.Limits.{limited-short, limited-long, limited-append, before_end-with_body}
-use Rattle.wav_io.proofs.Places.{found_in-riff, found_in-wave}
 
 -- ---- in the data
 
@@ -48,27 +47,12 @@ not_data place part other = tt
 
 pub through_walk : (depths : Depths) (old walked : Scan) (bytes rest : List ℕ) (part : Option Part) (new : Scan) → ((f : Format) (n : ℕ) → old.place ≡ DataBody f n → ⊥)
     → GoesOn depths old.place old.kept bytes walked.place walked.kept rest → walked.seen ≡ old.seen → GoesThrough depths walked rest part new → GoesThrough depths old bytes part new
-through_walk depths old walked bytes rest part new other goes counted through = record {
-  same = λ more. sym (goes.same more) ∙ through.same more;
-  place = through.place;
-  seen = λ n was. through.seen n (goes.seen n was);
-  behind = through.behind;
-  continues = not_data old.place part other;
-  counted = through.counted ∙ counted;
-}
-
-with_body-nil : (f : Finding) → f ≡ with_body [] f
-with_body-nil format_cut = refl
-with_body-nil other = refl
+through_walk depths old walked bytes rest part new other goes counted through = grind (arith, nat_tests)
 
 none-same : (depths : Depths) (place : Place) (kept rest : List ℕ) → IsWalked place rest → ((f : Format) (n : ℕ) → place ≡ DataBody f n → ⊥)
     → (more : List ℕ) → found_from depths place kept (rest ++ more) ≡ with_body [] (found_from depths place kept more)
 unfolding found_from
-none-same depths Opening kept rest walked other more = ap (λ (b : List ℕ). found_from depths Opening kept (b ++ more)) walked ∙ with_body-nil _
-none-same depths (Head format skip) kept rest walked other more = ap (λ (b : List ℕ). found_from depths (Head format skip) kept (b ++ more)) walked ∙ with_body-nil _
-none-same depths (FormatBody missing pad) kept rest walked other more = ap (λ (b : List ℕ). found_from depths (FormatBody missing pad) kept (b ++ more)) walked ∙ with_body-nil _
-none-same depths (DataBody f n) kept rest walked other more = absurd (other f n refl)
-none-same depths (Refused e) kept rest walked other more = refl
+none-same depths place kept rest walked other more = grind (arith, nat_tests)
 
 none-seen : (place : Place) (kept rest : List ℕ) (n : ℕ) → IsWalked place rest → HasSeen place (kept ++ rest) n → HasSeen place kept n
 none-seen Opening kept rest n walked was = was ∙ ap (λ (b : List ℕ). length (kept ++ b)) walked ∙ ap length (append-nil kept)
@@ -113,25 +97,15 @@ piece_through depths old mid near part through short more =
 
 -- ---- refusals
 
-refused-limited : (depths : Depths) (e : WavError) (kept : List ℕ) (seen : ℕ) (more : List ℕ) → within_limit seen (found_from depths (Refused e) kept) more ≡ Err e
-unfolding found_from
-refused-limited depths e kept seen more =
-    elim (cases_lt most_bytes (seen + length more)) [
-      | inl long ↦ limited-long seen (found_from depths (Refused e) kept) more long
-      | inr short ↦ limited-short seen (found_from depths (Refused e) kept) more short
-    ]
-
 pub refused_comes : (depths : Depths) (s : Scan) (e : WavError) → s.place ≡ Refused e → (more : List ℕ) → to_come depths s more ≡ Err e
-refused_comes depths s e is more = ap (λ (q : Place). within_limit s.seen (found_from depths q s.kept) more) is ∙ refused-limited depths e s.kept s.seen more
-
--- a refusal within the limit
-pub refused_through : (depths : Depths) (old mid : Scan) (near : List ℕ) (part : Option Part) (e : WavError) → GoesThrough depths old near part mid → old.seen + length near ≤ most_bytes → mid.place ≡ Refused e
-    → (more : List ℕ) → to_come depths old (near ++ more) ≡ Err e
-refused_through depths old mid near part e through short is more =
-    piece_through depths old mid near part through short more ∙ ap (with_front (part_bytes part)) (refused_comes depths (counted_on mid near) e is more)
+unfolding found_from
+refused_comes depths s e is more = elim (cases_lt most_bytes (s.seen + length more)) [
+  | inl long ↦ rw is (limited-long s.seen (found_from depths (Refused e) s.kept) more long)
+  | inr short ↦ rw is (limited-short s.seen (found_from depths (Refused e) s.kept) more short)
+]
 
 -- a piece that passes the limit
-pub past_limit : (depths : Depths) (old mid : Scan) (piece : List ℕ) (part : Option Part) → GoesThrough depths old (take (most_bytes - old.seen) piece) part mid → IsScan old → most_bytes < old.seen + length piece
+past_limit : (depths : Depths) (old mid : Scan) (piece : List ℕ) (part : Option Part) → GoesThrough depths old (take (most_bytes - old.seen) piece) part mid → IsScan old → most_bytes < old.seen + length piece
     → (more : List ℕ) → to_come depths old (piece ++ more) ≡ with_front (part_bytes part) (before_end (found_from depths mid.place mid.kept []))
 past_limit depths old mid piece part through scan long more =
     let room = most_bytes - old.seen in
@@ -141,35 +115,25 @@ past_limit depths old mid piece part through scan long more =
     ∙ ap before_end (through.same [])
     ∙ before_end-with_body (part_bytes part) (found_from depths mid.place mid.kept [])
 
+-- ends within a head and a format chunk
+pub ends_head : (depths : Depths) (format : Option Format) (skip : ℕ) (kept : List ℕ) → length kept < 8 → found_from depths (Head format skip) kept [] ≡ ended format
+unfolding found_from
+ends_head depths format skip kept few = rw (drop_all {X = ℕ} skip [] (omega arith), append-nil kept) (ap (scan_of depths format) (chunks-none kept few))
+
+pub ends_cut : (depths : Depths) (missing pad : ℕ) (kept : List ℕ) → 0 < missing → found_from depths (FormatBody missing pad) kept [] ≡ format_cut
+unfolding found_from
+ends_cut depths missing pad kept some = rw (lt-ltb 0 missing some) refl
+
 cut_short : (depths : Depths) (place : Place) (kept : List ℕ) → IsSoundPlace place kept → HasSeen place kept most_bytes → ((e : WavError) → place ≡ Refused e → ⊥) → before_end (found_from depths place kept []) ≡ Err TooLong
 unfolding found_from
 cut_short depths Opening kept few seen unrefused = absurd (omega (arith, seen, few))
-cut_short depths (Head format skip) kept few seen unrefused =
-    ap before_end (ap (λ (b : List ℕ). scan_of depths format (chunks (kept ++ b))) (drop_all skip [] (omega arith)) ∙ ap (λ (b : List ℕ). scan_of depths format (chunks b)) (append-nil kept) ∙ scan_of-ended depths format kept few.0)
-cut_short depths (FormatBody missing pad) kept few seen unrefused = ap before_end (cond-true (ltb 0 missing) format_cut _ (lt-ltb _ _ few.0))
+cut_short depths (Head format skip) kept few seen unrefused = ap before_end (ends_head depths format skip kept few.0)
+cut_short depths (FormatBody missing pad) kept few seen unrefused = ap before_end (ends_cut depths missing pad kept few.0)
 cut_short depths (DataBody f n) kept few seen unrefused = refl
 cut_short depths (Refused e) kept few seen unrefused = absurd (unrefused e refl)
 
-pub too_long : (depths : Depths) (old mid : Scan) (piece : List ℕ) (part : Option Part) → GoesThrough depths old (take (most_bytes - old.seen) piece) part mid → IsScan old → most_bytes < old.seen + length piece
-    → ((e : WavError) → mid.place ≡ Refused e → ⊥) → (more : List ℕ) → to_come depths old (piece ++ more) ≡ Err TooLong
-too_long depths old mid piece part through scan long unrefused more =
-    let near = take (most_bytes - old.seen) piece in
-    let all : old.seen + length near ≡ most_bytes = omega (arith, scan.limit, length-take (most_bytes - old.seen) piece) in
-    let seen : HasSeen mid.place mid.kept most_bytes = through.seen most_bytes (subst (λ (n : ℕ). HasSeen old.place (old.kept ++ near) n) all (seen-more old.place old.kept near old.seen scan.seen)) in
-    past_limit depths old mid piece part through scan long more ∙ ap (with_front (part_bytes part)) (cut_short depths mid.place mid.kept through.place seen unrefused)
-
-pub refused_past : (depths : Depths) (old mid : Scan) (piece : List ℕ) (part : Option Part) (e : WavError) → GoesThrough depths old (take (most_bytes - old.seen) piece) part mid → IsScan old → most_bytes < old.seen + length piece
-    → mid.place ≡ Refused e → (more : List ℕ) → to_come depths old (piece ++ more) ≡ Err e
-unfolding found_from
-refused_past depths old mid piece part e through scan long is more =
-    past_limit depths old mid piece part through scan long more
-    ∙ ap (λ (q : Place). with_front (part_bytes part) (before_end (found_from depths q mid.kept []))) is
-
 pub follows_from : (place : Place) (part : Option Part) → ContinuesData place part → ((e : WavError) → place ≡ Refused e → ⊥) → FollowsData place (Ok part)
-follows_from (DataBody f n) None is unrefused = is
-follows_from (DataBody f n) (Some p) is unrefused = is
-follows_from (Refused e) part is unrefused = unrefused e refl
-follows_from place part is unrefused = tt
+follows_from place part is unrefused = grind (arith, nat_tests)
 
 pub follows_err : (place : Place) (e : WavError) → ((d : WavError) → place ≡ Refused d → ⊥) → FollowsData place (Err e)
 follows_err (Refused d) e unrefused = absurd (unrefused d refl)
@@ -182,29 +146,16 @@ ends_at depths s place f scan is found =
     limited-short s.seen (found_from depths s.place s.kept) [] (omega (arith, scan.limit)) ∙ ap (λ (q : Place). at_end (found_from depths q s.kept [])) is ∙ ap at_end found
 
 pub ends_not_riff : (depths : Depths) (kept : List ℕ) → bytes_eq (take 4 kept) (codes "RIFF") ≡ false → found_from depths Opening kept [] ≡ refused NotRiff
-unfolding found_from
-ends_not_riff depths kept isnt = ap (found_in depths) (append-nil kept) ∙ found_in-riff depths kept isnt
+unfolding found_from found_in
+ends_not_riff depths kept isnt = rw (append-nil kept, isnt) refl
 
 pub ends_not_wave : (depths : Depths) (kept : List ℕ) → length kept < 12 → bytes_eq (take 4 kept) (codes "RIFF") ≡ true → found_from depths Opening kept [] ≡ refused NotWave
-unfolding found_from
-ends_not_wave depths kept few is = ap (found_in depths) (append-nil kept) ∙ found_in-wave depths kept is (no_room 8 kept (codes "WAVE") refl few)
-
-pub ends_head : (depths : Depths) (format : Option Format) (skip : ℕ) (kept : List ℕ) → length kept < 8 → found_from depths (Head format skip) kept [] ≡ ended format
-unfolding found_from
-ends_head depths format skip kept few =
-    ap (λ (b : List ℕ). scan_of depths format (chunks (kept ++ b))) (drop_all skip [] (omega arith)) ∙ ap (λ (b : List ℕ). scan_of depths format (chunks b)) (append-nil kept) ∙ scan_of-ended depths format kept few
-
-pub ends_cut : (depths : Depths) (missing pad : ℕ) (kept : List ℕ) → 0 < missing → found_from depths (FormatBody missing pad) kept [] ≡ format_cut
-unfolding found_from
-ends_cut depths missing pad kept some = cond-true (ltb 0 missing) format_cut _ (lt-ltb _ _ some)
+unfolding found_from found_in
+ends_not_wave depths kept few is = rw (append-nil kept, is, no_room 8 kept (codes "WAVE") refl few) refl
 
 pub ends_data : (depths : Depths) (f : Format) (missing : ℕ) (kept : List ℕ) → found_from depths (DataBody f missing) kept [] ≡ body_found f []
 unfolding found_from
 ends_data depths f missing kept = ap (body_found f) (take_all missing [] (omega arith))
-
-pub ends_refused : (depths : Depths) (e : WavError) (kept : List ℕ) → found_from depths (Refused e) kept [] ≡ refused e
-unfolding found_from
-ends_refused depths e kept = refl
 
 -- ---- a piece and what comes of it
 
@@ -213,22 +164,29 @@ near_of old piece = take (min (length piece) (most_bytes - old.seen)) piece
 
 pub piece_refused : (depths : Depths) (old mid : Scan) (piece near : List ℕ) (part : Option Part) (e : WavError) → near ≡ near_of old piece → GoesThrough depths old near part mid → IsScan old → mid.place ≡ Refused e
     → (more : List ℕ) → to_come depths old (piece ++ more) ≡ Err e
-piece_refused depths old mid piece near part e is through scan at =
+unfolding found_from
+piece_refused depths old mid piece near part e is through scan at more =
     elim (cases_lt (most_bytes - old.seen) (length piece)) [
       | inl past ↦
           let all : near ≡ take (most_bytes - old.seen) piece = is ∙ ap (λ (n : ℕ). take n piece) (omega arith) in
-          refused_past depths old mid piece part e (subst (λ (b : List ℕ). GoesThrough depths old b part mid) all through) scan (omega arith) at
+          past_limit depths old mid piece part (rw all at through) scan (omega arith) more ∙ ap
+          (λ (q : Place). with_front (part_bytes part) (before_end (found_from depths q mid.kept []))) at
       | inr within ↦
           let all : near ≡ piece = is ∙ take_all (min (length piece) (most_bytes - old.seen)) piece (omega arith) in
-          refused_through depths old mid piece part e (subst (λ (b : List ℕ). GoesThrough depths old b part mid) all through) (omega (arith, scan.limit)) at
+          piece_through depths old mid piece part (rw all at through) (omega (arith, scan.limit)) more ∙ ap (with_front (part_bytes part))
+          (refused_comes depths (counted_on mid piece) e at more)
     ]
 
 pub piece_too_long : (depths : Depths) (old mid : Scan) (piece near : List ℕ) (part : Option Part) → near ≡ near_of old piece → GoesThrough depths old near part mid → IsScan old → length near < length piece
     → ((e : WavError) → mid.place ≡ Refused e → ⊥) → (more : List ℕ) → to_come depths old (piece ++ more) ≡ Err TooLong
-piece_too_long depths old mid piece near part is through scan less unrefused =
+piece_too_long depths old mid piece near part is through scan less unrefused more =
     let count : length near ≡ min (length piece) (most_bytes - old.seen) = omega (arith, ap length is, length-take (min (length piece) (most_bytes - old.seen)) piece) in
     let all : near ≡ take (most_bytes - old.seen) piece = is ∙ ap (λ (n : ℕ). take n piece) (omega arith) in
-    too_long depths old mid piece part (subst (λ (b : List ℕ). GoesThrough depths old b part mid) all through) scan (omega arith) unrefused
+    let end : old.seen + length near ≡ most_bytes = omega (arith, scan.limit) in
+    let seen : HasSeen mid.place mid.kept most_bytes = through.seen most_bytes (subst (λ (n : ℕ). HasSeen old.place (old.kept ++ near) n) end
+    (seen-more old.place old.kept near old.seen scan.seen)) in
+    past_limit depths old mid piece part (rw all at through) scan (omega arith) more ∙ ap (with_front (part_bytes part))
+    (cut_short depths mid.place mid.kept through.place seen unrefused)
 
 pub piece_whole : (old : Scan) (piece near : List ℕ) → near ≡ near_of old piece → length piece ≤ length near → near ≡ piece
 piece_whole old piece near is all = is ∙ take_all (min (length piece) (most_bytes - old.seen)) piece (omega (arith, ap length is, length-take (min (length piece) (most_bytes - old.seen)) piece))

@@ -1,10 +1,9 @@
 -- The data of a file has no more bytes than a file may have.
-use Rattle.wav_io.specs.Prelude.{ap, arith, cond, drop, Err, false, inl, inr, length, List, ltb, None, Ok, Option, refl, Result, Some, suc, sym, take, true}
-use Rattle.wav_io.specs.Prelude.{zero, ℕ, [], ◌%◌, ◌*◌, ◌+◌, ◌-◌, ◌/◌, ◌∙◌, ◌∷◌, ◌≡◌, ◌≤◌, cases_lt, length-drop, length-take, codes, bytes_eq, WavError}
-use Rattle.wav_io.specs.Prelude.{NotRiff, NotWave, ShortFormat, Depths, UpTo32, Format, after_chunk, Chunk, chunks, chunks_in, first_chunk, size_at, whole}
-use Rattle.wav_io.specs.Prelude.{format_of, Raw, raw_file, raw_frame, raws, at_end, before_end, body_found, Contents, contents, data_chunk, decides, ended}
-use Rattle.wav_io.specs.Prelude.{Finding, finding_after, format_chunk, format_cut, found_in, goes_on, most_bytes, refused, scan_of, verdict_of}
-use Rattle.wav_io.specs.Prelude.{verdict_of_format}
+use Rattle.wav_io.specs.Prelude.{ap, arith, Bool, cond, drop, Err, false, inl, inr, length, List, ltb, None, Ok, Option, refl, Result, Some, suc, sym, take}
+use Rattle.wav_io.specs.Prelude.{true, zero, ℕ, [], ◌%◌, ◌*◌, ◌+◌, ◌-◌, ◌/◌, ◌∙◌, ◌≡◌, ◌≤◌, cases_lt, nat_tests, length-drop, length-take, codes, bytes_eq}
+use Rattle.wav_io.specs.Prelude.{WavError, Depths, UpTo32, Format, after_chunk, Chunk, chunks, chunks_in, first_chunk, size_at, whole, Raw, raw_file, raw_frame}
+use Rattle.wav_io.specs.Prelude.{raws, at_end, before_end, body_found, Contents, contents, ended, Finding, finding_after, format_cut, found_in, most_bytes}
+use Rattle.wav_io.specs.Prelude.{refused, scan_of, verdict_of}
 use Rattle.wav_io.proofs.Limits.{limited-long, limited-short}
 
 -- what is found has at most so many bytes of data
@@ -20,44 +19,19 @@ HasAtMost-more n m (body_found f body) low few = omega (arith, low, few)
 HasAtMost-more n m format_cut low few = tt
 HasAtMost-more n m (ended format) low few = tt
 
+-- what holds of two values holds of the one that a test chooses
+either : {A : Type 0} (P : A → Type 0) (b : Bool) (x y : A) → P x → P y → P (cond b x y)
+either P true x y p q = p
+either P false x y p q = q
+
 -- ---- one chunk
-
-verdict_of_format-few : (n : ℕ) (r : Result Format WavError) (next : Option Format → Finding) → ((kept : Option Format) → HasAtMost n (next kept)) → HasAtMost n (finding_after (verdict_of_format r) next)
-verdict_of_format-few n (Ok f) next few = few (Some f)
-verdict_of_format-few n (Err e) next few = tt
-
-format_chunk-few : (n : ℕ) (depths : Depths) (format : Option Format) (chunk : Chunk) (next : Option Format → Finding) → ((kept : Option Format) → HasAtMost n (next kept))
-    → HasAtMost n (finding_after (format_chunk depths format chunk) next)
-format_chunk-few n depths (Some f) chunk next few = tt
-format_chunk-few n depths None chunk next few =
-    elim (ltb chunk.size 16) as (λ b. HasAtMost n (finding_after (cond b (decides (refused ShortFormat)) (cond (ltb (length chunk.body) chunk.size) (decides format_cut) (verdict_of_format (format_of depths (take 40 chunk.body))))) next)) [
-      | true ↦ tt
-      | false ↦ elim (ltb (length chunk.body) chunk.size) as (λ b. HasAtMost n (finding_after (cond b (decides format_cut) (verdict_of_format (format_of depths (take 40 chunk.body)))) next)) [
-        | true ↦ tt
-        | false ↦ verdict_of_format-few n (format_of depths (take 40 chunk.body)) next few
-      ]
-    ]
-
-data_chunk-few : (n : ℕ) (format : Option Format) (chunk : Chunk) (next : Option Format → Finding) → length chunk.body ≤ n → HasAtMost n (finding_after (data_chunk format chunk) next)
-data_chunk-few n (Some f) chunk next low = low
-data_chunk-few n None chunk next low = tt
 
 verdict_of-few : (n : ℕ) (depths : Depths) (format : Option Format) (chunk : Chunk) (next : Option Format → Finding) → length chunk.body ≤ n → ((kept : Option Format) → HasAtMost n (next kept))
     → HasAtMost n (finding_after (verdict_of depths format chunk) next)
 unfolding verdict_of
-verdict_of-few n depths format chunk next low few =
-    elim (bytes_eq chunk.name (codes "fmt ")) as (λ b. HasAtMost n (finding_after (cond b (format_chunk depths format chunk) (cond (bytes_eq chunk.name (codes "data")) (data_chunk format chunk) (goes_on format))) next)) [
-      | true ↦ format_chunk-few n depths format chunk next few
-      | false ↦ elim (bytes_eq chunk.name (codes "data")) as (λ b. HasAtMost n (finding_after (cond b (data_chunk format chunk) (goes_on format)) next)) [
-        | true ↦ data_chunk-few n format chunk next low
-        | false ↦ few format
-      ]
-    ]
+verdict_of-few n depths format chunk next low few = grind (arith, nat_tests)
 
 -- ---- all chunks
-
-length-first_chunk : (bytes : List ℕ) → length (take (size_at bytes) (drop 8 bytes)) ≤ length bytes
-length-first_chunk bytes = omega (arith, length-take (size_at bytes) (drop 8 bytes), length-drop 8 bytes)
 
 length-after_chunk : (bytes : List ℕ) → length (after_chunk bytes) ≤ length bytes
 length-after_chunk bytes = omega (arith, length-drop (size_at bytes + size_at bytes % 2) (drop 8 bytes), length-drop 8 bytes)
@@ -66,23 +40,18 @@ chunks_in-few : (n : ℕ) (bytes : List ℕ) (depths : Depths) (format : Option 
 unfolding chunks_in
 chunks_in-few zero bytes depths format = tt
 chunks_in-few (suc n) bytes depths format =
-    elim (ltb (length bytes) 8) as (λ b. HasAtMost (length bytes) (scan_of depths format (cond b [] (first_chunk bytes ∷ chunks_in n (after_chunk bytes))))) [
-      | true ↦ tt
-      | false ↦
-          verdict_of-few (length bytes) depths format (first_chunk bytes) (λ kept. scan_of depths kept (chunks_in n (after_chunk bytes))) (length-first_chunk bytes)
-          (λ kept. HasAtMost-more (length (after_chunk bytes)) (length bytes) (scan_of depths kept (chunks_in n (after_chunk bytes))) (length-after_chunk bytes) (chunks_in-few n (after_chunk bytes) depths kept))
-    ]
+    either (λ cs. HasAtMost (length bytes) (scan_of depths format cs)) (ltb (length bytes) 8) _ _ tt
+    (verdict_of-few (length bytes) depths format (first_chunk bytes) (λ kept. scan_of depths kept (chunks_in n (after_chunk bytes))) (omega (arith, length-take (size_at bytes) (drop 8 bytes), length-drop 8 bytes))
+    (λ kept. HasAtMost-more (length (after_chunk bytes)) (length bytes) (scan_of depths kept (chunks_in n (after_chunk bytes))) (length-after_chunk bytes)
+    (chunks_in-few n (after_chunk bytes) depths kept)))
 
 found_in-few : (depths : Depths) (bytes : List ℕ) → HasAtMost (length bytes) (found_in depths bytes)
 unfolding found_in chunks
 found_in-few depths bytes =
-    elim (bytes_eq (take 4 bytes) (codes "RIFF")) as (λ b. HasAtMost (length bytes) (cond b (cond (bytes_eq (take 4 (drop 8 bytes)) (codes "WAVE")) (scan_of depths None (chunks (drop 12 bytes))) (refused NotWave)) (refused NotRiff))) [
-      | true ↦ elim (bytes_eq (take 4 (drop 8 bytes)) (codes "WAVE")) as (λ b. HasAtMost (length bytes) (cond b (scan_of depths None (chunks (drop 12 bytes))) (refused NotWave))) [
-        | true ↦ HasAtMost-more (length (drop 12 bytes)) (length bytes) (scan_of depths None (chunks (drop 12 bytes))) (omega (arith, length-drop 12 bytes)) (chunks_in-few (length (drop 12 bytes)) (drop 12 bytes) depths None)
-        | false ↦ tt
-      ]
-      | false ↦ tt
-    ]
+    either (HasAtMost (length bytes)) (bytes_eq (take 4 bytes) (codes "RIFF")) _ _
+    (either (HasAtMost (length bytes)) (bytes_eq (take 4 (drop 8 bytes)) (codes "WAVE")) _ _
+    (HasAtMost-more (length (drop 12 bytes)) (length bytes) (scan_of depths None (chunks (drop 12 bytes))) (omega (arith, length-drop 12 bytes))
+    (chunks_in-few (length (drop 12 bytes)) (drop 12 bytes) depths None)) tt) tt
 
 -- ---- a file
 

@@ -6,7 +6,7 @@ ghost use Rattle.std.specs.Str.{bytes_eq};
 ghost use Rattle.wav_io.specs.declared.error.WavError.TheVariants.{Memory};
 ghost use Rattle.wav_io.specs.declared.format.Depths.{Depths};
 ghost use Rattle.wav_io.specs.Chunks.{chunks};
-ghost use Rattle.wav_io.specs.Formats.{IsFormat, terms_of, extensible_of, format_of};
+ghost use Rattle.wav_io.specs.Formats.{IsFormat, terms_of, format_of};
 ghost use Rattle.wav_io.specs.Pieces.{LeadsTo, chunk_of_size, bytes_after};
 ghost use Rattle.wav_io.specs.Reading.{scan_of, found_in, finding_after, verdict_of_format, format_chunk};
 
@@ -42,25 +42,7 @@ fn read_terms(depths: Depths, body: &[u8]) -> Result<Format, WavError>
     }
 }
 
-#[tactic(auto, unfolding(crate::specs::Formats::extensible_of))]
-fn read_extensible(depths: Depths, body: &[u8]) -> Result<Format, WavError>
-    requires { 16 ≤ length body.now }
-    ensures value { result ≡ extensible_of depths body.now }
-    ensures in_order { IfOk result IsFormat }
-    ensures refused { IfErr result (λ e. e ≢ Memory) }
-{
-    if body.len() < 40 {
-        return Err(WavError::ShortFormat);
-    }
-    let tag = u16_at(body, 24);
-    if tag == 1 {
-        read_terms(depths, body)
-    } else {
-        Err(WavError::Tag(tag))
-    }
-}
-
-#[tactic(auto, unfolding(crate::specs::Formats::format_of))]
+#[tactic(auto, unfolding(crate::specs::Formats::format_of, crate::specs::Formats::extensible_of))]
 fn read_format(depths: Depths, body: &[u8]) -> Result<Format, WavError>
     requires { 16 ≤ length body.now }
     ensures value { result ≡ format_of depths body.now }
@@ -71,10 +53,17 @@ fn read_format(depths: Depths, body: &[u8]) -> Result<Format, WavError>
     if tag == 1 {
         return read_terms(depths, body);
     }
-    if tag == 0xfffe {
-        read_extensible(depths, body)
+    if tag != 0xfffe {
+        return Err(WavError::Tag(tag));
+    }
+    if body.len() < 40 {
+        return Err(WavError::ShortFormat);
+    }
+    let extended = u16_at(body, 24);
+    if extended == 1 {
+        read_terms(depths, body)
     } else {
-        Err(WavError::Tag(tag))
+        Err(WavError::Tag(extended))
     }
 }
 

@@ -1,6 +1,6 @@
 //! The steps of a reader through the chunks of a file.
 
-ghost use Rattle.std.specs.Prelude.{◌<◌, ℕ, List, length};
+ghost use Rattle.std.specs.Prelude.{◌<◌, length};
 ghost use Rattle.wav_io.specs.declared.format.Depths.{Depths};
 ghost use Rattle.wav_io.specs.declared.place.Place.TheVariants.{Opening, Head, FormatBody};
 ghost use Rattle.wav_io.specs.Pieces.{GoesOn, IsSoundPlace};
@@ -27,23 +27,6 @@ pub fn opening<'a>(kept: &mut Kept, bytes: &'a [u8]) -> (Place, &'a [u8])
     (place, behind)
 }
 
-/// Goes on before a chunk's head, and gives the bytes that follow.
-fn gap(format: Option<Format>, skip: usize, bytes: &[u8]) -> (Place, &[u8])
-    requires skip { 0 < skip }
-    requires some { 0 < length bytes.now }
-    ensures goes_on { (depths : Depths) (kept : List ℕ) → IsSoundPlace (Head format skip) kept
-        → GoesOn depths (Head format skip) kept bytes.now result.0 kept result.1.now }
-    ensures shorter { length result.1.now < length bytes.now }
-{
-    let gone = skip.min(bytes.len());
-    let (_, behind) = bytes.split_at(gone);
-    let place = Place::Head {
-        format,
-        skip: skip - gone,
-    };
-    (place, behind)
-}
-
 /// Goes on before a chunk's head or in it, and gives the bytes that follow.
 pub fn head<'a>(
     kept: &mut Kept,
@@ -58,7 +41,13 @@ pub fn head<'a>(
     ensures shorter { length result.1.now < length bytes.now }
 {
     if skip > 0 {
-        return gap(format, skip, bytes);
+        let gone = skip.min(bytes.len());
+        let (_, behind) = bytes.split_at(gone);
+        let place = Place::Head {
+            format,
+            skip: skip - gone,
+        };
+        return (place, behind);
     }
     let behind = kept.fill(8, bytes);
     if kept.len() < 8 {

@@ -8,10 +8,9 @@ returns-then-is_empty t c = sym (meets-last c.args.table.now.text c.args.parts.n
 
 pub returns-then-part : goal.returns-then-part
 returns-then-part t c =
-    let parts = c.args.parts.now in
     let content = c.args.table.now.text in
     let g = group_of c.args.group c.args.table.now.rows in
-    sym (meets-None no_part content parts g (omega arith) (grind arith) (met-removes (part_in content (get_or parts 0 no_part)) g c.if-part.true))
+    sym (meets-None no_part content c.args.parts.now g (omega arith) (grind arith) (met-removes (part_in content (get_or c.args.parts.now 0 no_part)) g c.if-part.true))
 
 pub returns-then-not-is_group : goal.returns-then-not-is_group
 returns-then-not-is_group t c =
@@ -38,9 +37,5 @@ returns-else-not-is_group t c =
 
 pub returns-in-None : goal.returns-in-None
 returns-in-None t c =
-    let parts = c.args.parts.now in
-    let content = c.args.table.now.text in
-    let rows = c.args.table.now.rows in
-    let q = c.args.group in
     let none = rw c.key.ensures at c.in-None.ensures.none in
-    sym (meets-None no_part content parts (group_of q rows) (omega arith) (grind arith) (met-absent (part_in content (get_or parts 0 no_part)) rows q c.if-part.false none))
+    sym (meets-None no_part c.args.table.now.text c.args.parts.now _ (omega arith) (grind arith) (met-absent _ c.args.table.now.rows c.args.group c.if-part.false none))

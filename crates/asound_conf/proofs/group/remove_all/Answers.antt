@@ -1,5 +1,5 @@
-use Rattle.asound_conf.specs.Prelude.{ap, ap₂, List, None, refl, set, subst, sym, ℕ, ◌<◌, ◌∙◌, ◌≡◌, Alters, ConfRow, Contents, group_of, IsAbsent, IsNode}
-use Rattle.asound_conf.specs.Prelude.{row_at, name_in, without_name}
+use Rattle.asound_conf.specs.Prelude.{ap, ap₂, List, None, refl, set, subst, sym, ℕ, ◌<◌, ◌∙◌, ◌≡◌, Alters, ConfRow, Contents, group_of, row_at, name_in}
+use Rattle.asound_conf.specs.Prelude.{without_name}
 use Rattle.asound_conf.proofs.Groups.{Alters-both, Alters-same, group-removed, has_node-IsAbsent, members, members-removed}
 use Rattle.asound_conf.proofs.Places.{without-none}
 use Rattle.asound_conf.proofs.Rows.{Alters-set, is_in-Some, only-None}
@@ -14,7 +14,7 @@ loop-number-preserved c =
     let rows = c.loop-number.table.rows in
     let n = c.in-Some.number in
     let name = name_in c.loop-number.table.text c.args.name in
-    let is : IsNode rows q name n = subst (λ (b : List ℕ). IsNode rows q b n) c.key.ensures c.in-Some.ensures.some in
+    let is = rw c.key.ensures at c.in-Some.ensures.some in
     let s : ConfRow = record { parent = None; name = (row_at rows n).name; value = None } in
     let new : c.remove.new.self.rows ≡ set rows n s = ap (λ (x : Contents). x.rows) c.remove.ensures in
     let same : c.remove.new.self.text ≡ c.loop-number.table.text = ap (λ (x : Contents). x.text) c.remove.ensures in
@@ -36,8 +36,4 @@ loop-number-smaller c =
 
 pub returns-clause-value : goal.returns-clause-value
 returns-clause-value c =
-    let q = c.args.group in
-    let rows = c.loop-number.table.rows in
-    let name = name_in c.loop-number.table.text c.args.name in
-    let none : IsAbsent rows q name = subst (λ (b : List ℕ). IsAbsent rows q b) c.key.ensures c.in_default.ensures.none in
-    sym (without-none name (group_of q rows) (has_node-IsAbsent rows q name none)) ∙ c.loop-number.invariant.left
+    sym (without-none _ _ (has_node-IsAbsent _ _ _ (rw c.key.ensures at c.in_default.ensures.none))) ∙ c.loop-number.invariant.left

@@ -1,8 +1,12 @@
-use Rattle.asound_conf.specs.Prelude.{ap, arith, length, length-append, List, refl, subst, sym, take, [], ◌+◌, ◌∙◌, ◌∷◌, ◌≡◌, ◌≤◌, take-length, length-take}
-use Rattle.asound_conf.specs.Prelude.{take-append-le}
+use Rattle.asound_conf.specs.Prelude.{ap, arith, length, length-append, List, refl, subst, sym, take, [], ◌++◌, ◌+◌, ◌∙◌, ◌∷◌, ◌≡◌, ◌≤◌, take-length}
+use Rattle.asound_conf.specs.Prelude.{length-take, take-append-le}
 use Rattle.asound_conf.proofs.PartLists.{IsPushed, IsPushed-next, piece-place}
 use Rattle.asound_conf.specs.declared.part.Part as code
 use Rattle.asound_conf.proofs.part.push_parts.Goals as goal
+
+-- the parts that were there before stay in front
+kept-push : (old now : List code.Part) (part : code.Part) → take (length old) now ≡ old → take (length old) (now ++ part ∷ []) ≡ old
+kept-push old now part kept = take-append-le (length old) now (part ∷ []) (omega (arith, length-take (length old) now, ap length kept)) ∙ kept
 
 pub loop-piece-init : goal.loop-piece-init
 loop-piece-init c = record {
@@ -25,19 +29,12 @@ loop-piece-preserved c =
           let place = piece-place text rest piece at (omega (arith, sizes)) c.in-Some.ensures.piece pushed.place in
           subst (λ (p : List code.Part). IsPushed text c.args.parts.now.items p c.args.word.now behind (at + (length piece + 1))) (sym c.in_ok-push.ensures.items)
           (IsPushed-next text c.args.parts.now.items c.loop-piece.parts.items c.args.word.now rest piece behind at c.part_of.result c.in-Some.ensures.some c.in-Some.ensures.behind sizes (c.part_of.ensures text place) pushed);
-      kept =
-          let old = c.args.parts.now.items in
-          let now = c.loop-piece.parts.items in
-          let kept : take (length old) now ≡ old = c.loop-piece.invariant.kept in
-          ap (take (length old)) c.in_ok-push.ensures.items ∙ take-append-le (length old) now (c.part_of.result ∷ []) (omega (arith, length-take (length old) now, ap length kept)) ∙ kept;
+      kept = ap (take _) c.in_ok-push.ensures.items ∙ kept-push c.args.parts.now.items c.loop-piece.parts.items c.part_of.result c.loop-piece.invariant.kept;
     }
 
 pub returns-clause-kept : goal.returns-clause-kept
 returns-clause-kept c =
-    let old = c.args.parts.now.items in
-    let now = c.loop-piece.parts.items in
-    let kept : take (length old) now ≡ old = c.loop-piece.invariant.kept in
-    ap (take (length old)) c.in_ok-push-2.ensures.items ∙ take-append-le (length old) now (c.part_of-2.result ∷ []) (omega (arith, length-take (length old) now, ap length kept)) ∙ kept
+    ap (take _) c.in_ok-push-2.ensures.items ∙ kept-push c.args.parts.now.items c.loop-piece.parts.items c.part_of-2.result c.loop-piece.invariant.kept
 
 pub returns-clause-more : goal.returns-clause-more
 returns-clause-more c =

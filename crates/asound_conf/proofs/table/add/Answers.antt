@@ -1,5 +1,5 @@
-use Rattle.asound_conf.specs.Prelude.{arith, length, List, refl, subst, sym, ◌<◌, ◌≡◌, err_from_is_err_and, Cell, IsTable, text_bytes}
-use Rattle.asound_conf.proofs.Changes.{IsAdded-steps, IsTable-added, contents-added}
+use Rattle.asound_conf.specs.Prelude.{arith, length, List, subst, sym, ◌<◌, ◌≡◌, err_from_is_err_and, Cell, IsTable}
+use Rattle.asound_conf.proofs.Changes.{table-added}
 use Rattle.asound_conf.proofs.table.add.Goals as goal
 
 pub returns : goal.returns
@@ -9,18 +9,16 @@ returns c =
     let inside : c.args.parent < length cells = grind arith in
     let number : c.len-number.result ≡ length cells = grind arith in
     let wide : c.len.result ≡ length heads = grind arith in
-    let it = IsAdded-steps c.args.text.now c.args.cells.now.items c.push.new.self.items c.args.heads.now.items c.args.parent c.args.name c.args.value
-    c.len-number.result c.len.result c.bucket_of-bucket.result c.index.result.now (text_bytes c.key_in.result) c.content_of.result c.noted-content.result
-    (record { parent = c.args.parent; name = c.args.name; content = c.content_of.result; earlier = c.index.result.now }) c.index-2.result.now c.index-3.result.now c.with_content.result
-    inside number (omega arith) wide c.bucket_of-bucket.ensures.within c.bucket_of-bucket.ensures.value c.key_in.ensures c.content_of.ensures c.index.ensures
-    refl c.in_ok-push.ensures.items c.index-2.ensures c.noted-content.ensures c.index-3.ensures c.with_content.ensures in
+    let within : c.bucket_of-bucket.result < length heads = omega (arith, wide, c.bucket_of-bucket.ensures.within) in
+    let bucket = rw (wide, c.key_in.ensures) at c.bucket_of-bucket.ensures.value in
+    let it = table-added c.args.text.now cells c.push.new.self.items heads c.args.parent c.len-number.result c.bucket_of-bucket.result c.index.result.now c.args.name
+    c.args.value c.content_of.result
+    c.noted-content.result c.index-2.result.now c.index-3.result.now inside number (omega arith) within bucket c.content_of.ensures c.index.ensures
+    c.in_ok-push.ensures.items c.index-2.ensures
+    c.noted-content.ensures c.index-3.ensures c.requires.table in
     record {
-      table =
-          IsTable-added c.args.text.now c.args.cells.now.items c.push.new.self.items c.args.heads.now.items c.args.parent c.args.name c.args.value c.len-number.result c.bucket_of-bucket.result c.index.result.now
-          (record { parent = c.args.parent; name = c.args.name; content = c.content_of.result; earlier = c.index.result.now }) c.with_content.result it c.requires.table;
-      rows =
-          contents-added c.args.text.now c.args.cells.now.items c.push.new.self.items c.args.heads.now.items c.args.parent c.args.name c.args.value c.len-number.result c.bucket_of-bucket.result c.index.result.now
-          (record { parent = c.args.parent; name = c.args.name; content = c.content_of.result; earlier = c.index.result.now }) c.with_content.result it;
+      table = rw c.with_content.ensures it.0;
+      rows = rw c.with_content.ensures it.1;
       number = c.len-number.ensures;
       kept = tt;
       memory = tt;

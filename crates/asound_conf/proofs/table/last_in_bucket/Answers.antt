@@ -1,5 +1,5 @@
-use Rattle.asound_conf.specs.Prelude.{arith, sym, ◌<◌, ◌∙◌, ◌≡◌, no_cell, text_bytes}
-use Rattle.asound_conf.proofs.Changes.{cell-any, zero_cell}
+use Rattle.asound_conf.specs.Prelude.{arith, sym, ◌<◌, ◌∙◌, ◌≡◌, get_or_default, no_cell, text_bytes}
+use Rattle.asound_conf.proofs.Changes.{zero_cell}
 use Rattle.asound_conf.proofs.Tables.{IsAbsent-sought, IsNode-sought, IsSought-first, IsSought-next}
 use Rattle.asound_conf.proofs.table.last_in_bucket.Goals as goal
 
@@ -12,14 +12,14 @@ pub returns-then-fits-clause-some : goal.returns-then-fits-clause-some
 returns-then-fits-clause-some c =
     let at = c.loop-at.at in
     let some : 0 < at = omega arith in
-    let found = rw (cell-any c.args.cells.now at zero_cell no_cell c.loop-at.invariant.inside) at (sym c.fits.ensures ∙ c.if-fits.true) in
+    let found = rw (get_or_default c.args.cells.now at zero_cell no_cell c.loop-at.invariant.inside) at (sym c.fits.ensures ∙ c.if-fits.true) in
     IsNode-sought c.args.text.now c.args.cells.now c.args.heads.now c.args.group (text_bytes c.args.key) at c.requires.indexed c.loop-at.invariant some found
 
 pub loop-at-preserved : goal.loop-at-preserved
 loop-at-preserved c =
     let at = c.loop-at.at in
     let some : 0 < at = omega arith in
-    let same = cell-any c.args.cells.now at zero_cell no_cell c.loop-at.invariant.inside in
+    let same = get_or_default c.args.cells.now at zero_cell no_cell c.loop-at.invariant.inside in
     let other = rw same at (sym c.fits.ensures ∙ c.if-fits.false) in
     rw same (IsSought-next c.args.text.now c.args.cells.now c.args.heads.now c.args.group (text_bytes c.args.key) at c.requires.indexed c.loop-at.invariant some other)
 

@@ -1,6 +1,6 @@
 use Rattle.asound_conf.specs.Prelude.{ap, arith, length, List, refl, set, subst, sym, ◌∙◌, ◌≡◌, false≢true, length-set, Cell, Removed, cell_at, contents_of}
 use Rattle.asound_conf.specs.Prelude.{is_live, IsTable}
-use Rattle.asound_conf.proofs.Changes.{IsChanged-read, IsTable-removed, contents-removed, gone-changed}
+use Rattle.asound_conf.proofs.Changes.{IsChanged-read, IsTable-changed, contents-removed, gone-changed}
 use Rattle.asound_conf.proofs.table.remove.Goals as goal
 
 pub forget-requires : goal.forget-requires
@@ -12,7 +12,7 @@ forget-requires c =
     let it = IsChanged-read cells n Removed c.index.result.now new c.requires.inside (λ live. absurd (false≢true live)) c.index.ensures c.with_content.ensures in
     let is : c.as_slice.result.now ≡ set cells n new = c.as_slice.ensures.value in
     record {
-      table = subst (λ (k : List Cell). IsTable text k c.args.heads.now.items) (sym is) (IsTable-removed text cells c.args.heads.now.items n new it c.requires.table);
+      table = subst (λ (k : List Cell). IsTable text k c.args.heads.now.items) (sym is) (IsTable-changed text cells c.args.heads.now.items n _ new tt it c.requires.table);
       inside = omega (arith, ap (λ (k : List Cell). length k) is, length-set cells n new, c.requires.inside);
       gone = ap (λ (k : List Cell). is_live (cell_at k n).content) is ∙ gone-changed cells n new it;
     }

@@ -1,4 +1,4 @@
-use Rattle.asound_conf.specs.Prelude.{ap, ap₂, arith, false, length, refl, sym, true, ◌<◌, ◌∙◌, ◌∷◌, ◌≡◌, slice_index, is_skipped, LineToken, token_of, tokens}
+use Rattle.asound_conf.specs.Prelude.{ap₂, arith, false, length, refl, sym, true, ◌<◌, ◌∙◌, ◌≡◌, slice_index, is_skipped, tokens}
 use Rattle.asound_conf.proofs.Starts.{IsBefore-suffix, IsSuffix-both, IsSuffix-self}
 use Rattle.asound_conf.proofs.Tokens.{tokens-token, tokens-skipped, tokens-none}
 use Rattle.asound_conf.proofs.token.next_token.Goals as goal
@@ -8,12 +8,8 @@ returns-then-not-is_skipped-clause-some c =
     let text = c.loop-rest.rest.now in
     let some : 0 < length text = grind arith in
     let kept : is_skipped (slice_index text 0) ≡ false = sym c.is_skipped.ensures ∙ c.if-not-is_skipped.true in
-    let line = c.loop-rest.line in
     let first = c.first_lexeme.ensures in
-    c.loop-rest.invariant.0
-    ∙ tokens-token line text some first.moves kept
-    ∙ ap₂ (λ t r. let one : LineToken = record { line = line; token = t } in one ∷ tokens 0 line r) (sym first.token) (sym first.rest)
-    ∙ ap (λ l. let one : LineToken = record { line = l; token = token_of c.first_lexeme.result.token } in one ∷ tokens 0 l c.first_lexeme.result.rest.now) (sym first.line)
+    rw (first.token, first.rest, first.line) (c.loop-rest.invariant.0 ∙ tokens-token c.loop-rest.line text some first.moves kept)
 
 pub loop-rest-preserved : goal.loop-rest-preserved
 loop-rest-preserved c =

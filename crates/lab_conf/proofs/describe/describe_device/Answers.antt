@@ -1,4 +1,4 @@
-use Rattle.std.proofs.Common.{Err, ap}
+use Rattle.std.proofs.Common.{Err, ap, rules}
 use Rattle.std.proofs.lemmas.Result.{err_from_is_err_and}
 use Rattle.lab_stop.specs.Causes.{cause}
 use Rattle.lab_stop.specs.EndLaws.{EndsOf-read, EndsReliably-read}
@@ -15,26 +15,18 @@ returns-clause-lines g c = record {
   card = IsScriptText-card c.in_ok-device.device c.in_ok-device.ensures.card;
 }
 
-pub returns-in_err-device-clause-cause : goal.returns-in_err-device-clause-cause
-returns-in_err-device-clause-cause g c =
+pub returns-in_err-device : goal.returns-in_err-device
+returns-in_err-device g c =
     let p = err_from_is_err_and c.from_residual.result c.from_residual.ensures.1 in
-    rw (p.1, p.2) (λ m told. EndsOf-read c.in_err-device.field-0.0 _ (c.in_err-device.ensures.device.answer m told))
-
-pub returns-in_err-device-clause-missing : goal.returns-in_err-device-clause-missing
-returns-in_err-device-clause-missing g c reliable =
-    let p = err_from_is_err_and c.from_residual.result c.from_residual.ensures.1 in
-    rw (p.1, p.2)
-    (λ m told. EndsReliably-read c.in_err-device.field-0.0 _ (c.in_err-device.ensures.device.answer m told)
-    (c.in_err-device.ensures.device.missing reliable m told))
-
-pub returns-in_err-device-clause-only : goal.returns-in_err-device-clause-only
-returns-in_err-device-clause-only g c =
-    let p = err_from_is_err_and c.from_residual.result c.from_residual.ensures.1 in
-    rw (p.1, p.2) (FetchFaults-only {X = Unit {0}} (Err c.in_err-device.field-0.0) _ _ c.in_err-device.ensures.only_reads.faults)
-
-pub returns-in_err-device-clause-only_reads : goal.returns-in_err-device-clause-only_reads
-returns-in_err-device-clause-only_reads g c =
-    OnlyReads-passed g.S.Shelf c.from_residual.result c.in_err-device.field-0.0 _ _ c.from_residual.ensures.1 c.in_err-device.ensures.only_reads
+    record {
+      lines = search rules;
+      cause = rw (p.1, p.2) (λ m told. EndsOf-read c.in_err-device.field-0.0 _ (c.in_err-device.ensures.device.answer m told));
+      missing = λ reliable. rw (p.1, p.2)
+          (λ m told. EndsReliably-read c.in_err-device.field-0.0 _ (c.in_err-device.ensures.device.answer m told)
+          (c.in_err-device.ensures.device.missing reliable m told));
+      only = rw (p.1, p.2) (FetchFaults-only {X = Unit {0}} (Err c.in_err-device.field-0.0) _ _ c.in_err-device.ensures.only_reads.faults);
+      only_reads = OnlyReads-passed g.S.Shelf c.from_residual.result c.in_err-device.field-0.0 _ _ c.from_residual.ensures.1 c.in_err-device.ensures.only_reads;
+    }
 
 pub returns-in_err-text-clause-only_reads : goal.returns-in_err-text-clause-only_reads
 returns-in_err-text-clause-only_reads g c =

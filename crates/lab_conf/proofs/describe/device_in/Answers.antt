@@ -25,13 +25,8 @@ returns-in_err-root-clause-device g c =
 pub returns-in_err-root-clause-only_reads : goal.returns-in_err-root-clause-only_reads
 returns-in_err-root-clause-only_reads g c =
     let p = err_from_is_err_and c.from_residual-in_err-root.result c.from_residual-in_err-root.ensures.1 in
-    rw p.1
-    (record {
-      files = c.in_ok-text.ensures.only_reads.files;
-      faults = FetchFaults-conf _ _ _ _ p.2 c.in_ok-text.ensures.only_reads.faults;
-      write_faults = c.in_ok-text.ensures.only_reads.write_faults;
-      reliable = c.in_ok-text.ensures.only_reads.reliable;
-    })
+    let faults = FetchFaults-conf _ _ _ _ p.2 c.in_ok-text.ensures.only_reads.faults in
+    rw p.1 (assumption (c.in_ok-text.ensures.only_reads))
 
 pub returns-in_err-found-clause-device : goal.returns-in_err-found-clause-device
 returns-in_err-found-clause-device g c =
@@ -45,13 +40,8 @@ returns-in_err-found-clause-device g c =
 pub returns-in_err-found-clause-only_reads : goal.returns-in_err-found-clause-only_reads
 returns-in_err-found-clause-only_reads g c =
     let p = err_from_is_err_and c.from_residual-in_err-found.result c.from_residual-in_err-found.ensures.1 in
-    rw p.1
-    (record {
-      files = c.in_ok-text.ensures.only_reads.files;
-      faults = FetchFaults-conf _ _ _ _ p.2 c.in_ok-text.ensures.only_reads.faults;
-      write_faults = c.in_ok-text.ensures.only_reads.write_faults;
-      reliable = c.in_ok-text.ensures.only_reads.reliable;
-    })
+    let faults = FetchFaults-conf _ _ _ _ p.2 c.in_ok-text.ensures.only_reads.faults in
+    rw p.1 (assumption (c.in_ok-text.ensures.only_reads))
 
 pub returns-clause-device : goal.returns-clause-device
 returns-clause-device g c = record {

@@ -1,4 +1,4 @@
-use Rattle.lab_refine.specs.Prelude.{ap, Err, err_from_is_err_and, cause, IsSameShelf-reads, OnlyReads-done, OnlyReads-memory, OnlyReads-passed}
+use Rattle.lab_refine.specs.Prelude.{ap, Err, rules, err_from_is_err_and, cause, IsSameShelf-reads, OnlyReads-done, OnlyReads-memory, OnlyReads-passed}
 use Rattle.lab_stop.specs.EndLaws.{EndsOf-read, EndsReliably-read}
 use Rattle.lab_stop.specs.FaultLaws.{FetchFaults-only}
 use Rattle.lab_refine.proofs.AnswerLaws.{AreAnswers-unique}
@@ -12,26 +12,18 @@ returns-clause-answers g c = record {
   only = λ other given. AreAnswers-unique c.in_ok-request.request _ other c.in_ok-text.ensures.answers given;
 }
 
-pub returns-in_err-request-clause-cause : goal.returns-in_err-request-clause-cause
-returns-in_err-request-clause-cause g c =
+pub returns-in_err-request : goal.returns-in_err-request
+returns-in_err-request g c =
     let p = err_from_is_err_and c.from_residual.result c.from_residual.ensures.1 in
-    rw (p.1, p.2) (λ m told. EndsOf-read c.in_err-request.field-0.0 _ (c.in_err-request.ensures.request.answer m told))
-
-pub returns-in_err-request-clause-missing : goal.returns-in_err-request-clause-missing
-returns-in_err-request-clause-missing g c reliable =
-    let p = err_from_is_err_and c.from_residual.result c.from_residual.ensures.1 in
-    rw (p.1, p.2)
-    (λ m told. EndsReliably-read c.in_err-request.field-0.0 _ (c.in_err-request.ensures.request.answer m told)
-    (c.in_err-request.ensures.request.missing reliable m told))
-
-pub returns-in_err-request-clause-only : goal.returns-in_err-request-clause-only
-returns-in_err-request-clause-only g c =
-    let p = err_from_is_err_and c.from_residual.result c.from_residual.ensures.1 in
-    rw (p.1, p.2) (FetchFaults-only {X = Unit {0}} (Err c.in_err-request.field-0.0) _ _ c.in_err-request.ensures.only_reads.faults)
-
-pub returns-in_err-request-clause-only_reads : goal.returns-in_err-request-clause-only_reads
-returns-in_err-request-clause-only_reads g c =
-    OnlyReads-passed g.S.Shelf c.from_residual.result c.in_err-request.field-0.0 _ _ c.from_residual.ensures.1 c.in_err-request.ensures.only_reads
+    record {
+      answers = search rules;
+      cause = rw (p.1, p.2) (λ m told. EndsOf-read c.in_err-request.field-0.0 _ (c.in_err-request.ensures.request.answer m told));
+      missing = λ reliable. rw (p.1, p.2)
+          (λ m told. EndsReliably-read c.in_err-request.field-0.0 _ (c.in_err-request.ensures.request.answer m told)
+          (c.in_err-request.ensures.request.missing reliable m told));
+      only = rw (p.1, p.2) (FetchFaults-only {X = Unit {0}} (Err c.in_err-request.field-0.0) _ _ c.in_err-request.ensures.only_reads.faults);
+      only_reads = OnlyReads-passed g.S.Shelf c.from_residual.result c.in_err-request.field-0.0 _ _ c.from_residual.ensures.1 c.in_err-request.ensures.only_reads;
+    }
 
 pub returns-in_err-text-clause-only_reads : goal.returns-in_err-text-clause-only_reads
 returns-in_err-text-clause-only_reads g c =

@@ -23,13 +23,8 @@ returns-in_err-request-clause-request g c =
 pub returns-in_err-request-clause-only_reads : goal.returns-in_err-request-clause-only_reads
 returns-in_err-request-clause-only_reads g c =
     let p = err_from_is_err_and c.from_residual-in_err-request.result c.from_residual-in_err-request.ensures.1 in
-    rw p.1
-    (record {
-      files = c.in_ok-text.ensures.only_reads.files;
-      faults = FetchFaults-refused _ _ _ _ _ c.in_err-request.ensures.exact p.2 c.in_ok-text.ensures.only_reads.faults;
-      write_faults = c.in_ok-text.ensures.only_reads.write_faults;
-      reliable = c.in_ok-text.ensures.only_reads.reliable;
-    })
+    let faults = FetchFaults-refused _ _ _ _ _ c.in_err-request.ensures.exact p.2 c.in_ok-text.ensures.only_reads.faults in
+    rw p.1 (assumption (c.in_ok-text.ensures.only_reads))
 
 pub returns-clause-request : goal.returns-clause-request
 returns-clause-request g c = record {

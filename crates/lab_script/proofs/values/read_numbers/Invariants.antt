@@ -1,4 +1,5 @@
-use Rattle.lab_script.specs.Prelude.{length, [], ◌≡◌, parts_of, numbers_from}
+use Rattle.lab_script.specs.Prelude.{length, [], ◌≡◌, numbers_from}
+use Rattle.text_words.specs.Word.{parts_of}
 use Rattle.lab_script.proofs.values.read_numbers.Given as goal
 
 abbrev pub invariant-loop-part : goal.invariant-loop-part

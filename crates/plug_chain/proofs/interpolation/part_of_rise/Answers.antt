@@ -1,19 +1,16 @@
-use Rattle.plug_chain.specs.Prelude.{ap, arith, pos, refl, rules, ℕ, ◌*◌, ◌+◌, ◌/◌, ◌∙◌, ◌≡◌, ◌≤◌, div-le_self, ints, to_z-of_z, div_ceil, w64, unsigned_abs}
-use Rattle.plug_chain.specs.Prelude.{◌-ℤ◌, ◌<ℤ◌, ◌≤ℤ◌, of_z, to_z}
-use Rattle.plug_chain.proofs.Lines.{div_ceil-le, div_euclid-fall, div_euclid-rise, size-most}
+use Rattle.plug_chain.specs.Prelude.{ap, arith, pos, refl, rules, ◌*◌, ◌+◌, ◌/◌, ◌∙◌, ◌≡◌, ◌≤◌, div-le_self, ints, to_z-of_z, div_ceil, w64, unsigned_abs, ◌-ℤ◌}
+use Rattle.plug_chain.specs.Prelude.{◌<ℤ◌, ◌≤ℤ◌, of_z, to_z}
+use Rattle.plug_chain.proofs.Lines.{div_euclid-fall, div_euclid-rise, size-most}
 use Rattle.plug_chain.proofs.interpolation.part_of_rise.Goals as goal
 
 -- a size that is rounded up, of the arguments
 ceil_is : (c : goal.After-div_ceil) → c.div_ceil.result ≡ div_ceil (unsigned_abs c.args.rise * c.args.part) c.args.parts
-ceil_is c =
-    c.div_ceil.ensures
-    ∙ (ap (λ (n : ℕ). div_ceil (n * c.from.result) c.from-then-rise-lt0.result) (c.unsigned_abs.ensures.value ∙ ap unsigned_abs (to_z-of_z w64 c.args.rise c.ranges.rise))
-    ∙ (ap (λ (n : ℕ). div_ceil (unsigned_abs c.args.rise * n) c.from-then-rise-lt0.result) c.from.ensures ∙ ap (λ (n : ℕ). div_ceil (unsigned_abs c.args.rise * c.args.part) n) c.from-then-rise-lt0.ensures))
+ceil_is c = rw (c.div_ceil.ensures, c.unsigned_abs.ensures.value, to_z-of_z w64 c.args.rise c.ranges.rise, c.from.ensures, c.from-then-rise-lt0.ensures) refl
 
 ceil_small : (c : goal.After-div_ceil) → c.div_ceil.result ≤ 65535 * 4294967296 + 1
 ceil_small c =
     let most = size-most c.args.rise (unsigned_abs c.args.rise) c.args.part c.args.part c.requires.rise refl refl (let part = c.ranges.part.fits in omega (arith, part)) in
-    omega (arith, ceil_is c, most, div_ceil-le (unsigned_abs c.args.rise * c.args.part) c.args.parts)
+    omega (arith, ceil_is c, most, div-le_self (unsigned_abs c.args.rise * c.args.part) c.args.parts)
 
 pub overflow_cast-result : goal.overflow_cast-result
 overflow_cast-result c = record { sfits = omega (arith, ceil_small c) }
@@ -45,7 +42,6 @@ overflow_cast-result-else-rise-lt0 c = record { sfits = omega (arith, floor_smal
 pub returns-else-rise-lt0 : goal.returns-else-rise-lt0
 returns-else-rise-lt0 c =
     let is : c.unsigned_abs.result * c.from.result / c.from-else-rise-lt0.result ≡ unsigned_abs c.args.rise * c.args.part / c.args.parts =
-    ap (λ (n : ℕ). n * c.from.result / c.from-else-rise-lt0.result) (c.unsigned_abs.ensures.value ∙ ap unsigned_abs (to_z-of_z w64 c.args.rise c.ranges.rise))
-    ∙ (ap (λ (n : ℕ). unsigned_abs c.args.rise * n / c.from-else-rise-lt0.result) c.from.ensures ∙ ap (λ (n : ℕ). unsigned_abs c.args.rise * c.args.part / n) c.from-else-rise-lt0.ensures) in
+    rw (c.unsigned_abs.ensures.value, to_z-of_z w64 c.args.rise c.ranges.rise, c.from.ensures, c.from-else-rise-lt0.ensures) refl in
     let rises : pos 0 ≤ℤ c.args.rise = first_of (grind (arith, ints), search rules, omega (arith, ints)) in
     div_euclid-rise c.args.rise c.args.part c.args.parts (c.unsigned_abs.result * c.from.result / c.from-else-rise-lt0.result) rises (omega (arith, floor_small c)) is

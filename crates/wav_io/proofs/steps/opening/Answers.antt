@@ -1,4 +1,4 @@
-use Rattle.wav_io.specs.Prelude.{arith, List, subst, sym, ℕ, ◌++◌, Opening, GoesOn, LeadsTo, found_in}
+use Rattle.std.proofs.Common.{arith}
 use Rattle.wav_io.proofs.Places.{opening-stays, opening-leads, fewer}
 use Rattle.wav_io.proofs.steps.opening.Goals as goal
 
@@ -10,12 +10,7 @@ returns-then-len-lt12-clause-shorter c = fewer 12 _ _ _ _ c.fill-behind.ensures.
 
 pub returns-clause-goes_on : goal.returns-clause-goes_on
 returns-clause-goes_on c depths =
-    let kept = c.fill-behind.new.self in
-    let place = c.after_opening-place.result in
-    let leads : LeadsTo depths place (λ more. found_in depths (kept ++ more)) =
-    subst (λ (b : List ℕ). LeadsTo depths place (λ more. found_in depths (b ++ more))) c.as_slice.ensures (c.after_opening-place.ensures depths) in
-    subst (λ (b : List ℕ). GoesOn depths Opening c.args.kept.now c.args.bytes.now place b c.fill-behind.result.now) (sym c.clear.ensures)
-    (opening-leads depths _ _ kept _ place c.fill-behind.ensures.all leads)
+    rw c.clear.ensures (opening-leads depths _ _ _ _ c.after_opening-place.result c.fill-behind.ensures.all (rw c.as_slice.ensures at (c.after_opening-place.ensures depths)))
 
 pub returns-clause-shorter : goal.returns-clause-shorter
 returns-clause-shorter c = fewer 12 _ _ _ _ c.fill-behind.ensures.all c.fill-behind.ensures.len c.requires.place c.requires.some

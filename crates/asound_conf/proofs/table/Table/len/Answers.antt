@@ -1,7 +1,9 @@
-use Rattle.asound_conf.specs.Prelude.{ap, length, sym, ◌∙◌, length-map, Contents, cell_row}
+use Rattle.asound_conf.specs.Prelude.{ap, arith, length, map, ◌≡◌, length-map, Contents, cell_row}
 use Rattle.asound_conf.proofs.table.Table.len.Goals as goal
 
 pub returns : goal.returns
 returns c =
-    c.count_cells.ensures ∙ ap length c.as_slice.ensures.value ∙ sym (length-map c.self.inside.cells.items (cell_row c.self.inside.text.items))
-    ∙ ap (λ (k : Contents). length k.rows) c.self.view_is
+    let text = c.self.inside.text.items in
+    let cells = c.self.inside.cells.items in
+    let rows : length (map (cell_row text) cells) ≡ length c.args.self.now.rows = ap (λ (k : Contents). length k.rows) c.self.view_is in
+    omega (arith, c.len.ensures, c.self.inside.cells.ok, c.self.invariant.indexed.most, rows, length-map cells (cell_row text))

@@ -21,9 +21,9 @@ loop-channel-preserved c =
     record {
       channels = ap length placed ∙ (length-set (samples_of c.loop-channel.frame) c.loop-channel.channel c.sample.result ∙ c.loop-channel.invariant.channels);
       left = omega (arith, ap length back, length-drop (bytes_of c.args.self.now.from) c.loop-channel.rest.now, c.loop-channel.invariant.left, ap (λ (n : ℕ). n * bytes_of c.args.self.now.from) more);
-      all = ap (λ xs. xs ++ samples_in c.args.self.now.from (c.args.self.now.table.inputs - (c.loop-channel.channel + 1)) c.split_at.result.1.now) grown
-          ∙ (ap (λ ys. (take c.loop-channel.channel (samples_of c.loop-channel.frame) ++ c.sample.result ∷ []) ++ samples_in c.args.self.now.from (c.args.self.now.table.inputs - (c.loop-channel.channel + 1)) ys) back
-          ∙ samples_in-step c.args.self.now.from (c.args.self.now.table.inputs - c.loop-channel.channel) (c.args.self.now.table.inputs - (c.loop-channel.channel + 1)) c.loop-channel.rest.now (take c.loop-channel.channel (samples_of c.loop-channel.frame))
+      all = rw (grown, back)
+          (samples_in-step c.args.self.now.from (c.args.self.now.table.inputs - c.loop-channel.channel) (c.args.self.now.table.inputs - (c.loop-channel.channel + 1))
+          c.loop-channel.rest.now (take c.loop-channel.channel (samples_of c.loop-channel.frame))
           (samples_in c.args.self.now.from c.args.self.now.table.inputs c.args.bytes.now) c.sample.result more (c.sample.ensures ∙ ap (wide_sample c.args.self.now.from) front) c.loop-channel.invariant.all);
     }
 

@@ -1,8 +1,7 @@
-use Rattle.plug_chain.specs.Prelude.{ap, arith, drop, length, List, subst, sym, take, ℕ, [], ◌<◌, ◌∙◌, ◌∷◌, ◌≡◌, ◌≤◌, err_from_is_err_and, Advances}
-use Rattle.plug_chain.specs.Prelude.{frame_bytes, frame_from_bytes, rest_of, conversion_of}
+use Rattle.plug_chain.specs.Prelude.{ap, arith, drop, length, sym, take, ℕ, [], ◌<◌, ◌∙◌, ◌≡◌, ◌≤◌, err_from_is_err_and, frame_bytes, rest_of, conversion_of}
 use Rattle.plug_chain.proofs.Courses.{Extends-trans}
 use Rattle.plug_chain.proofs.Cuts.{rest_of-more, rest_of-short}
-use Rattle.plug_chain.proofs.Reached.{HasReached, HasReached-end, HasReached-more}
+use Rattle.plug_chain.proofs.Reached.{HasReached-end, HasReached-more}
 use Rattle.plug_chain.proofs.converter.Converter.take_frames.Goals as goal
 
 pub take_frame-requires-clause-bytes : goal.take_frame-requires-clause-bytes
@@ -25,14 +24,12 @@ loop-rest-preserved c =
     let enough : frame_bytes (conversion_of c.args.self.now) ≤ length c.loop-rest.rest.now = omega arith in
     let front : c.split_at.result.0.now ≡ take (frame_bytes (conversion_of c.args.self.now)) c.loop-rest.rest.now = c.split_at.ensures.front ∙ ap (λ (n : ℕ). take n c.loop-rest.rest.now) width in
     let back : c.split_at.result.1.now ≡ drop (frame_bytes (conversion_of c.args.self.now)) c.loop-rest.rest.now = c.split_at.ensures.back ∙ ap (λ (n : ℕ). drop n c.loop-rest.rest.now) width in
-    let advances = subst (λ (xs : List ℕ). Advances c.args.self.now.rates c.args.self.now.table.outputs (frame_from_bytes (conversion_of c.args.self.now) xs ∷ []) c.loop-rest.course c.take_frame.new.course c.loop-rest.out.items c.take_frame.new.out.items)
-    front c.in_ok-take_frame.ensures.ok
-    in
+    let advances = rw front at c.in_ok-take_frame.ensures.ok in
     record {
       course = c.in_ok-take_frame.ensures.course;
       rest = ap (rest_of (conversion_of c.args.self.now)) back ∙ (sym (rest_of-more (conversion_of c.args.self.now) c.loop-rest.rest.now some enough) ∙ c.loop-rest.invariant.rest);
       reached = λ frames at.
-          subst (λ (xs : List ℕ). HasReached (conversion_of c.args.self.now) frames c.args.bytes.now xs c.take_frame.new.course c.args.out.now.items c.take_frame.new.out.items) (sym back)
+          rw back
           (HasReached-more (conversion_of c.args.self.now) frames c.args.bytes.now c.loop-rest.rest.now c.loop-rest.course c.take_frame.new.course c.args.out.now.items c.loop-rest.out.items c.take_frame.new.out.items some enough
           (c.loop-rest.invariant.reached frames at) advances);
       grows = Extends-trans c.args.out.now.items c.loop-rest.out.items c.take_frame.new.out.items c.loop-rest.invariant.grows c.in_ok-take_frame.ensures.grows;

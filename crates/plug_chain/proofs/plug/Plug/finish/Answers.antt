@@ -1,10 +1,10 @@
-use Rattle.plug_chain.specs.Prelude.{arith, subst, Completes, Stage}
+use Rattle.plug_chain.specs.Prelude.{arith, refl, subst, Completes, Stage}
 use Rattle.plug_chain.proofs.Courses.{Extends-cut}
-use Rattle.plug_chain.proofs.Stages.{Completes-ends, IsStage-course}
+use Rattle.plug_chain.proofs.Stages.{Completes-ends}
 use Rattle.plug_chain.proofs.plug.Plug.finish.Goals as goal
 
 pub end-requires : goal.end-requires
-end-requires c = IsStage-course c.self.inside.converter c.self.inside.progress c.self.invariant
+end-requires c = record { same_channels = refl; begun = c.self.invariant.course.begun; near = c.self.invariant.course.near }
 
 pub returns-in-Ok-clause-ok : goal.returns-in-Ok-clause-ok
 returns-in-Ok-clause-ok c =

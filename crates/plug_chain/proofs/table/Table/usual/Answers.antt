@@ -11,10 +11,8 @@ loop-place-preserved c =
     let fits : FitsSigned w32 c.usual_weight.result = search rules in
     let grown : c.push.new.self.items ≡ c.loop-place.weights.items ++ c.usual_weight.result ∷ [] = simp to_z-of_z at c.in_ok-push.ensures.items in
     record {
-      weights = grown
-          ∙ (ap (λ xs. xs ++ c.usual_weight.result ∷ []) c.loop-place.invariant.weights
-          ∙ (ap (λ x. map (weight_at c.args.inputs c.args.outputs) (range_with_len 0 c.loop-place.place) ++ x ∷ []) c.usual_weight.ensures.value
-          ∙ sym (map-range_with_len_more (weight_at c.args.inputs c.args.outputs) 0 c.loop-place.place c.loop-place.place (omega arith))));
+      weights = rw (grown, c.loop-place.invariant.weights, c.usual_weight.ensures.value)
+          (sym (map-range_with_len_more (weight_at c.args.inputs c.args.outputs) 0 c.loop-place.place c.loop-place.place (omega arith)));
       each = subst (All IsWeight) (sym grown) (All-append IsWeight c.loop-place.weights.items (c.usual_weight.result ∷ []) c.loop-place.invariant.each (All-cons IsWeight c.usual_weight.result [] c.usual_weight.ensures.within (All-nil IsWeight)));
     }
 

@@ -1,6 +1,6 @@
-use Rattle.wav_io.specs.Prelude.{ap, Err, subst, [], ◌≡◌, IfSome, UpTo32, error_of, raws, Reader, contents}
+use Rattle.wav_io.specs.Prelude.{ap, Err, refl, subst, [], ◌≡◌, IfSome, UpTo32, error_of, raws, Reader, contents}
 use Rattle.wav_io.proofs.Raws.{ends_raw, raws-frames}
-use Rattle.wav_io.proofs.Readers.{starved_comes, refused_rest, again_from, IfSome-weaker}
+use Rattle.wav_io.proofs.Readers.{starved_comes, refused_rest, again_at, IfSome-weaker}
 use Rattle.wav_io.proofs.Sizes.{length-raw_file}
 use Rattle.wav_io.proofs.raw.RawReader.finish.Goals as goal
 
@@ -26,7 +26,7 @@ pub returns-in-Err-clause-again : goal.returns-in-Err-clause-again
 returns-in-Err-clause-again c =
     let old : Reader = record { scan = c.self.inside.scan; part = c.self.inside.part; starved = c.self.inside.is_starved } in
     IfSome-weaker (error_of c.args.self) _ _ (λ e same. ap (λ x. Err x) same)
-    (subst (λ (r : Reader). IfSome (error_of r) (λ d. c.in-Err.error ≡ d)) c.self.view_is (again_from UpTo32 old c.in-Err.error (refused_rest UpTo32 old [] c.in-Err.error c.if-self.false c.in-Err.ensures.err)))
+    (subst (λ (r : Reader). IfSome (error_of r) (λ d. c.in-Err.error ≡ d)) c.self.view_is (again_at UpTo32 old c.in-Err.error _ refl (refused_rest UpTo32 old [] c.in-Err.error c.if-self.false c.in-Err.ensures.err)))
 
 pub returns-in-Err-clause-frames : goal.returns-in-Err-clause-frames
 returns-in-Err-clause-frames c bytes s is = raws-frames (contents UpTo32 bytes) s is

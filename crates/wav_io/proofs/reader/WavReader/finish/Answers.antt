@@ -1,5 +1,5 @@
-use Rattle.wav_io.specs.Prelude.{ap, Err, subst, [], ◌≡◌, IfSome, Sixteen, error_of, Reader, contents, sounds}
-use Rattle.wav_io.proofs.Readers.{starved_comes, refused_rest, ends_fed, sounds-frames, again_from, IfSome-weaker}
+use Rattle.wav_io.specs.Prelude.{ap, Err, refl, subst, [], ◌≡◌, IfSome, Sixteen, error_of, Reader, contents, sounds}
+use Rattle.wav_io.proofs.Readers.{starved_comes, refused_rest, ends_fed, sounds-frames, again_at, IfSome-weaker}
 use Rattle.wav_io.proofs.reader.WavReader.finish.Goals as goal
 
 pub returns-then-self-clause-err : goal.returns-then-self-clause-err
@@ -24,7 +24,7 @@ pub returns-in-Err-clause-again : goal.returns-in-Err-clause-again
 returns-in-Err-clause-again c =
     let old : Reader = record { scan = c.self.inside.scan; part = c.self.inside.part; starved = c.self.inside.is_starved } in
     IfSome-weaker (error_of c.args.self) _ _ (λ e same. ap (λ x. Err x) same)
-    (subst (λ (r : Reader). IfSome (error_of r) (λ d. c.in-Err.error ≡ d)) c.self.view_is (again_from Sixteen old c.in-Err.error (refused_rest Sixteen old [] c.in-Err.error c.if-self.false c.in-Err.ensures.err)))
+    (subst (λ (r : Reader). IfSome (error_of r) (λ d. c.in-Err.error ≡ d)) c.self.view_is (again_at Sixteen old c.in-Err.error _ refl (refused_rest Sixteen old [] c.in-Err.error c.if-self.false c.in-Err.ensures.err)))
 
 pub returns-in-Err-clause-frames : goal.returns-in-Err-clause-frames
 returns-in-Err-clause-frames c bytes s is = sounds-frames (contents Sixteen bytes) s is

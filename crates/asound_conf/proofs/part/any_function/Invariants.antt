@@ -1,6 +1,0 @@
-use Rattle.asound_conf.specs.Prelude.{false, take, ◌≡◌, list_any, parts_in}
-use Rattle.asound_conf.specs.Key.{is_function}
-use Rattle.asound_conf.proofs.part.any_function.Given as goal
-
-abbrev pub invariant-loop-part : goal.invariant-loop-part
-invariant-loop-part l = list_any is_function (parts_in l.text (take l.part-index l.parts)) ≡ false

@@ -1,6 +1,0 @@
-use Rattle.std.proofs.Common.{◌-◌, arith}
-use Rattle.std.proofs.lemmas.Nat.{and_le_r}
-use Rattle.asound_conf.proofs.table.bucket_by.Goals as goal
-
-pub returns-clause-within : goal.returns-clause-within
-returns-clause-within c = let most = and_le_r c.args.hash (c.args.buckets - 1) in omega (arith, most)
