@@ -28,10 +28,7 @@ moment_of-at p w stores takes played captured stores_is takes_is played_is captu
 -- two moments, one after the other
 pub saw-both : {T : Type 0} (saw : T → T → List Moment → Type 0) → SightsCompose saw → (a b c : T) (x y m n : Moment)
     → saw a b (x ∷ []) → saw b c (y ∷ []) → x ≡ m → y ≡ n → saw a c (m ∷ n ∷ [])
-saw-both saw composes a b c x y m n first second is_first is_second =
-    subst (λ (z : Moment). saw a c (z ∷ n ∷ [])) is_first
-    (subst (λ (z : Moment). saw a c (x ∷ z ∷ [])) is_second
-    (composes.joined a b c (x ∷ []) (y ∷ []) first second))
+saw-both saw composes a b c x y m n first second is_first is_second = rw (← is_first, ← is_second) (composes.joined a b c (x ∷ []) (y ∷ []) first second)
 
 -- one frame more, and the period that it may end
 pub saw-more : {T : Type 0} (saw : T → T → List Moment → Type 0) → SightsCompose saw → (a b c d : T) (period first captured n frame played before next last : ℕ)
@@ -42,13 +39,9 @@ pub saw-more : {T : Type 0} (saw : T → T → List Moment → Type 0) → Sight
 saw-more saw composes a b c d period first captured n frame played before next last were frame_seen frame_is played_is before_is period_seen next_is last_is =
     let P : ℕ = last_period period first first n in
     let C : ℕ = last_period period first captured n in
-    let of_frame : saw b c (frame_moments (first + n) P C) =
-    subst (λ (f : ℕ). saw b c (frame_moments f P C)) frame_is
-    (subst (λ (x : ℕ). saw b c (frame_moments frame x C)) played_is
-    (subst (λ (x : ℕ). saw b c (frame_moments frame played x)) before_is frame_seen)) in
-    let of_period : saw c d (period_moments period (first + suc n) C) =
-    subst (λ (f : ℕ). saw c d (period_moments period f C)) (omega (arith, next_is))
-    (subst (λ (x : ℕ). saw c d (period_moments period next x)) (last_is ∙ before_is) period_seen) in
+    let of_frame : saw b c (frame_moments (first + n) P C) = rw (frame_is, played_is, before_is) at frame_seen in
+    let suc_next : next ≡ first + suc n = omega (arith, next_is) in
+    let of_period : saw c d (period_moments period (first + suc n) C) = rw (suc_next, last_is, before_is) at period_seen in
     subst (λ (k : ℕ). saw a d (moments_to period first captured k)) (suc-eq-add-one n)
     (composes.joined a b d (moments_to period first captured n)
     (frame_moments (first + n) P C ++ period_moments period (first + suc n) C)
@@ -61,11 +54,8 @@ pub saw-published : {T : Type 0} (saw : T → T → List Moment → Type 0) → 
     → saw a c (moments_of period first captured n)
 saw-published saw composes a b c period first captured n frame before were not_ended seen frame_is before_is =
     let C : ℕ = last_period period first captured n in
-    let of_end : saw b c (publish_moments (first + n) C) =
-    subst (λ (f : ℕ). saw b c (publish_moments f C)) frame_is
-    (subst (λ (x : ℕ). saw b c (publish_moments frame x)) before_is seen) in
     subst (λ (e : Bool). saw a c (moments_to period first captured n ++ (if e then [] else publish_moments (first + n) C))) (sym not_ended)
-    (composes.joined a b c (moments_to period first captured n) (publish_moments (first + n) C) were of_end)
+    (composes.joined a b c (moments_to period first captured n) (publish_moments (first + n) C) were (rw (frame_is, before_is) at seen))
 
 -- the end is a multiple of the period: it is published already
 pub saw-ended : {T : Type 0} (saw : T → T → List Moment → Type 0) (a b : T) (period first captured n : ℕ)
@@ -74,4 +64,4 @@ pub saw-ended : {T : Type 0} (saw : T → T → List Moment → Type 0) (a b : T
 saw-ended saw a b period first captured n were ended =
     let C : ℕ = last_period period first captured n in
     subst (λ (e : Bool). saw a b (moments_to period first captured n ++ (if e then [] else publish_moments (first + n) C))) (sym ended)
-    (subst (λ (ms : List Moment). saw a b ms) (sym (append-nil (moments_to period first captured n))) were)
+    (rw append-nil were)

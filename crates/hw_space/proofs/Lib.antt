@@ -1,4 +1,3 @@
-pub mod NarrowingLaws
 pub mod PointLaws
 pub mod Results
 pub mod RuleLaws

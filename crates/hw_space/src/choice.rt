@@ -65,7 +65,10 @@ fn take(ranges: &mut ParamBox, choice: &Choice) -> Result<(), Empty>
     ensures proper { OnOk result (IsProper ranges.new) }
 {
     match *choice {
-        Choice::Settle => take_settled(ranges),
+        Choice::Settle => {
+            settle(ranges)?;
+            Ok(())
+        }
         Choice::FirstAccess => {
             let number = first_number(ranges.access);
             take_access(ranges, number)
@@ -84,16 +87,6 @@ fn take(ranges: &mut ParamBox, choice: &Choice) -> Result<(), Empty>
         }
         Choice::Near(quantity, value) => take_near(ranges, quantity, value),
     }
-}
-
-/// Refines the box, as a step of the choice.
-fn take_settled(ranges: &mut ParamBox) -> Result<(), Empty>
-    requires { IsProper ranges.old }
-    ensures makes { ChoiceLeaves Choice.Settle ranges.old (space_left result ranges.new) }
-    ensures proper { OnOk result (IsProper ranges.new) }
-{
-    settle(ranges)?;
-    Ok(())
 }
 
 /// The least number of a mask that has one.

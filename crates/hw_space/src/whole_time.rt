@@ -3,14 +3,13 @@ ghost use Rattle.std.specs.Prelude.{◌≡◌, ◌↔◌, ◌+◌, ◌-◌, ◌^
 ghost use Rattle.hw_space.specs.Proper.{IsProper};
 ghost use Rattle.hw_space.specs.Settled.{IsVoid};
 ghost use Rattle.hw_space.specs.Steps.{IsBoxStep};
-ghost use Rattle.hw_space.specs.Widest.{whole_from_to};
 ghost use Rattle.hw_space.specs.WholeTimes.{HasWholeTime, HasNoneFrom, size_of_span, time_of_span};
 
 use crate::narrowing::whole_from_to;
 use crate::param_box::ParamBox;
 use crate::quantity::Quantity;
 use crate::settle::narrow_part;
-use pcm_interval::{Empty, Interval};
+use pcm_interval::Empty;
 
 /// A stretch of frames that has a size and a time.
 #[derive(Clone, Copy)]
@@ -41,8 +40,8 @@ impl Span {
     }
 }
 
-/// Narrows the size of a span to those whose time is whole, where the time is and there is one rate. `Ok(true)` says
-/// that it changed.
+/// Narrows the size of a span to those whose time is whole, where the time is and there is one rate: from the least to
+/// the greatest of them, or to nothing where there is none. `Ok(true)` says that it changed.
 ///
 /// The rules between size and time find these sizes too, but they pass by the others one at a time, up to 16384 of
 /// them, and each takes a pass over all rules.
@@ -56,23 +55,12 @@ pub fn refine_whole_time(ranges: &mut ParamBox, span: Span) -> Result<bool, Empt
     if !time.integer || rate.min < rate.max {
         return Ok(false);
     }
-    let sizes = whole_sizes(ranges.part(span.size()), rate.min);
+    let size = ranges.part(span.size());
+    let least = first_whole(size.min, size.max, rate.min);
+    let greatest = last_whole(least, size.max, rate.min);
+    let sizes = whole_from_to(least, greatest);
     let changed = narrow_part(ranges, span.size(), &sizes)?;
     Ok(changed)
-}
-
-/// From the least to the greatest size within an interval whose time is whole; empty where there is none.
-fn whole_sizes(sizes: Interval, rate: u32) -> Interval
-    requires rate { 1 ≤ rate }
-    requires min { 1 ≤ sizes.min }
-    requires max { sizes.max + 1 < 2 ^ 32 }
-    ensures whole { result ≡ whole_from_to result.min result.max }
-    ensures below { HasNoneFrom rate sizes.min result.min }
-    ensures above { HasNoneFrom rate (result.max + 1) (sizes.max + 1) }
-{
-    let least = first_whole(sizes.min, sizes.max, rate);
-    let greatest = last_whole(least, sizes.max, rate);
-    whole_from_to(least, greatest)
 }
 
 /// The first size from `least` up to `most` whose time is whole, or `most + 1`.

@@ -63,11 +63,7 @@ any_free more places place at found =
     list_any_at is_free places place (record { holder = None; last = None }) there.0 there.1
 
 past_none : {X : Type 0} (p : X → Bool) (xs : List X) → position p xs ≡ None → length xs ≤ position_or_len p xs
-past_none p xs is = by_test (nat_lt (position_or_len p xs) (length xs)) refl
-  where
-    by_test : (less : Bool) → nat_lt (position_or_len p xs) (length xs) ≡ less → length xs ≤ position_or_len p xs
-    by_test true less = absurd (none-some (position_or_len p xs) (sym is ∙ ap (λ b. cond b (Some (position_or_len p xs)) None) less))
-    by_test false less = grind (arith, nat_tests)
+past_none p xs is = grind (arith, nat_tests)
 
 none_free : (more : List (Option MixSeat)) (places : List Place) → AreAtPlaces more places → lowest_free more ≡ None → list_any is_free places ≡ false
 none_free more places at found =

@@ -29,5 +29,4 @@ pub use Rattle.lab_run.specs.Places.{Place, place_after}
 pub use Rattle.lab_run.specs.PortSteps.{IsLow, last_from, MarksAlike, untouched}
 pub use Rattle.lab_places.specs.declared.places.Places.{Places}
 pub use Rattle.lab_places.specs.Held.{AreAtPlaces, attached_held, AttachesAt, closed_held, HasMetPlayer, HoldsGiven, HoldsNone, HoldsPlace, IsAnswerOfRun}
-pub use Rattle.lab_places.specs.Held.{IsAtPlace, IsClaimed, IsGiven, IsHeldBy, IsLobby, IsOwnLast, IsSameLobby, lobby_of, opened_held, opened_if, Opens}
-pub use Rattle.lab_places.specs.Held.{share_of, shares_of}
+pub use Rattle.lab_places.specs.Held.{IsAtPlace, IsClaimed, IsGiven, IsHeldBy, IsLobby, IsOwnLast, lobby_of, opened_held, opened_if, Opens, share_of, shares_of}

@@ -1,20 +1,12 @@
 -- Where no free seat may be handed out.
-use Rattle.lobby.specs.Prelude.{ap, arith, Bool, cond, false, get_or, IsSome, length, List, None, not, Option, refl, Some, suc, sym, true, zero, ℕ, [], ◌+◌}
-use Rattle.lobby.specs.Prelude.{◌<◌, ◌∙◌, ◌∷◌, ◌≡◌, ◌≤◌, false≢true, nat_tests, none-some, same_Some, cons_option, position, prefix_len, MixSeat, is_below}
-use Rattle.lobby.specs.Prelude.{is_silent, last_frames, last_of, lowest_free, lowest_silent, seat_at}
+use Rattle.lobby.specs.Prelude.{ap, arith, Bool, false, IsSome, length, List, None, Option, refl, Some, suc, sym, true, zero, ℕ, [], ◌∙◌, ◌∷◌, ◌≡◌, ◌≤◌}
+use Rattle.lobby.specs.Prelude.{false≢true, nat_tests, none-some, same_Some, cons_option, position, position_or_len, MixSeat, is_below, is_silent, last_frames}
+use Rattle.lobby.specs.Prelude.{last_of, lowest_free, lowest_silent, seat_at}
+use Rattle.std.proofs.lemmas.List.Sums.{fails_before_first}
 use Rattle.lobby.proofs.Placed.{has_value, lowest-found}
 
--- a test that passes nowhere fails at each element
-fails : {X : Type 0} (p : X → Bool) (xs : List X) (k : ℕ) (d : X) → length xs ≤ prefix_len (λ x. not (p x)) xs → k < length xs → p (get_or xs k d) ≡ false
-fails p [] k d all inside = absurd (omega arith)
-fails p (x ∷ xs) k d all inside = by_head (λ i. fails p xs i d) (p x) refl k inside all where
-  by_head : ((i : ℕ) → length xs ≤ prefix_len (λ y. not (p y)) xs → i < length xs → p (get_or xs i d) ≡ false)
-      → (b : Bool) → p x ≡ b → (i : ℕ) → i < suc (length xs) → suc (length xs) ≤ cond (not b) (1 + prefix_len (λ y. not (p y)) xs) 0 → p (get_or (x ∷ xs) i d) ≡ false
-  by_head later true is i within long = absurd (omega arith)
-  by_head later false is zero within long = is
-  by_head later false is (suc i) within long = later i (omega arith) (omega arith)
-
-no_position : {X : Type 0} (p : X → Bool) (xs : List X) → position p xs ≡ None → length xs ≤ prefix_len (λ x. not (p x)) xs
+-- a test that passes nowhere has no first element
+no_position : {X : Type 0} (p : X → Bool) (xs : List X) → position p xs ≡ None → length xs ≤ position_or_len p xs
 no_position p xs is = grind (arith, nat_tests)
 
 cons_none : (o : Option ℕ) (xs : List ℕ) → cons_option o xs ≡ [] → (o ≡ None) × (xs ≡ [])
@@ -36,6 +28,7 @@ some_last seats p free none empty =
     let found = lowest-found seats place.0 place.1 in
     let s : MixSeat = found.1.0 in
     let no_frame : last_of s ≡ None = no_last seats place.0 s empty found.1.1 in
-    let loud : is_silent p (seat_at seats place.0) ≡ false = fails (is_silent p) seats place.0 None (no_position (is_silent p) seats none) found.0 in
+    let loud : is_silent p (seat_at seats place.0) ≡ false =
+    fails_before_first (is_silent p) seats place.0 None (omega (arith, found.0, no_position (is_silent p) seats none)) in
     let silent : is_silent p (seat_at seats place.0) ≡ true = ap (is_silent p) found.1.1 ∙ ap (is_below p) no_frame in
     false≢true (sym loud ∙ silent)

@@ -1,14 +1,14 @@
 -- The names that most proofs of this crate cite, passed on from one place. Declares nothing.
 pub use Rattle.std.proofs.Common.{add-one, All, ap, append_assoc, arith, Bool, cond, Err, false, get_or, IfSome, inl, inr, is_some, IsSome, length, List}
-pub use Rattle.std.proofs.Common.{MatchOption, min, nat_lt, None, not, Ok, Option, refl, Result, set, Some, subst, suc, sym, take, true, vec_capacity, zero, ℕ}
-pub use Rattle.std.proofs.Common.{[], ◌++◌, ◌+◌, ◌-◌, ◌<◌, ◌^◌, ◌∙◌, ◌∷◌, ◌≡◌, ◌≤◌}
+pub use Rattle.std.proofs.Common.{MatchOption, min, nat_lt, None, Ok, Option, refl, Result, set, Some, subst, suc, sym, take, true, vec_capacity, zero, ℕ, []}
+pub use Rattle.std.proofs.Common.{◌++◌, ◌+◌, ◌-◌, ◌<◌, ◌^◌, ◌∙◌, ◌∷◌, ◌≡◌, ◌≤◌}
 pub use Rattle.std.proofs.Math.Seq.{get_or-append_seam, take-suc}
 pub use Rattle.std.proofs.lemmas.Bool.{cases_eq, cases_lt, false≢true}
 pub use Rattle.std.proofs.lemmas.Bool.Decides.{nat_tests}
 pub use Rattle.std.proofs.lemmas.List.{append-nil, get_or-set_other, get_or-set_same, get_or_append_left, get_or_default, get_or_push, length-append}
 pub use Rattle.std.proofs.lemmas.List.{length-set, nil_from_length}
 pub use Rattle.std.proofs.lemmas.Option.{none-some, same_Some}
-pub use Rattle.std.specs.List.{cons_option, filter_map, position, position_or_len, prefix_len}
+pub use Rattle.std.specs.List.{cons_option, filter_map, position, position_or_len}
 pub use Rattle.std.specs.Option.{option_and_then, option_to_list}
 pub use Rattle.mix_core.specs.declared.port.Position.{Position}
 pub use Rattle.sum_table.specs.declared.seats.mix.MixSeat.{MixSeat}

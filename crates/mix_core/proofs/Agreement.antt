@@ -1,6 +1,6 @@
 -- What each event does to the agreement of a core with what was placed and what was taken.
-use Rattle.mix_core.specs.Prelude.{ap, arith, Bool, false, get_or, inl, inr, length, List, nat_lt, pos, refl, set, subst, sym, ℕ, [], ◌&&◌, ◌++◌, ◌+ℤ◌, ◌+◌}
-use Rattle.mix_core.specs.Prelude.{◌<◌, ◌==◌, ◌||◌, ◌∙◌, ◌∷◌, ◌≡◌, ◌≤◌, add-div_right, cases_eq, nat_tests, get_or-set_other, get_or-set_same, length-append}
+use Rattle.mix_core.specs.Prelude.{ap, arith, false, get_or, inl, inr, length, List, nat_lt, pos, refl, set, subst, sym, ℕ, [], ◌&&◌, ◌++◌, ◌+ℤ◌, ◌+◌, ◌<◌}
+use Rattle.mix_core.specs.Prelude.{◌==◌, ◌||◌, ◌∙◌, ◌∷◌, ◌≡◌, ◌≤◌, add-div_right, cases_eq, nat_tests, get_or-set_other, get_or-set_same, length-append}
 use Rattle.mix_core.specs.Prelude.{length-set, All-push, Geometry, nat_lt-behind, next_word-suc, cursor_after, first_frame, first_free, lap, next_word}
 use Rattle.mix_core.specs.Prelude.{word_index, clamp_of, count_of, lap_of, StandsFor, StandsFor-fields, sum_of, Taken, Marks, Entry, is_taken, at, marks_after}
 use Rattle.mix_core.specs.Prelude.{marks_of, total, value_of, AreInOrder-more, at-more_elsewhere, at-more_here, is_taken-more, is_taken-none}
@@ -21,13 +21,7 @@ taking v es = record { frame = v.next.frame; channel = v.next.channel; value = c
 
 -- a later position
 pub Agrees-published : (v : View) (es : List Entry) (ts : List Taken) (position : ℕ) → v.position ≤ position → Agrees v es ts → Agrees (record v { position = position }) es ts
-Agrees-published v es ts position later a =
-    let ahead : (f c : ℕ) → position + v.geometry.frames ≤ f → at es f c ≡ [] = λ f c far. a.ahead f c (omega (arith, far)) in
-    assumption
-
--- the card is gone
-pub Agrees-unplugged : (v : View) (es : List Entry) (ts : List Taken) (gone : Bool) → Agrees v es ts → Agrees (record v { gone = gone }) es ts
-Agrees-unplugged v es ts gone a = assumption
+Agrees-published v es ts position later a = grind (arith, nat_tests)
 
 -- the next word was taken
 pub Agrees-taken : (v : View) (es : List Entry) (ts : List Taken) (word : ℕ)

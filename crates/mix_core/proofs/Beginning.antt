@@ -1,9 +1,8 @@
 -- A new core is sound, and represents the empty history.
-use Rattle.mix_core.specs.Prelude.{ap, arith, false, pos, refl, subst, ℕ, [], ◌*◌, ◌+◌, ◌-◌, ◌/◌, ◌<◌, ◌∙◌, ◌≡◌, ◌≤◌, nat_tests, get_or-replicate}
-use Rattle.mix_core.specs.Prelude.{length-replicate, All-replicate, Geometry, Cursor, word_index-lt, first_frame, first_free, lap, word_index, StandsFor, Marks}
-use Rattle.mix_core.specs.Prelude.{IsNew, first_frame-le, start_marks, AreWithin, IsNow, IsSound, RepresentsHistory, View, word_at}
+use Rattle.mix_core.specs.Prelude.{arith, false, pos, refl, subst, ℕ, [], ◌*◌, ◌-◌, ◌<◌, ◌≡◌, ◌≤◌, nat_tests, get_or-replicate, length-replicate, All-replicate}
+use Rattle.mix_core.specs.Prelude.{Geometry, Cursor, word_index-lt, first_frame, lap, word_index, StandsFor, Marks, IsNew, first_frame-le, start_marks}
+use Rattle.mix_core.specs.Prelude.{AreWithin, IsNow, IsSound, RepresentsHistory, View, word_at}
 use Rattle.std.proofs.Math.ListN.{replicate}
-use Rattle.std.proofs.lemmas.Nat.{div-mul-add}
 use Rattle.mix_core.proofs.Soundness.{HoldsAtMost-empty}
 
 -- where everybody begins
@@ -23,13 +22,7 @@ new_view g members word = record {
 
 -- the frames that a new ring has are those of the first lap
 pub lap-first : (g : Geometry) (f c : ℕ) → IsNow g (start g) f c → lap g f ≡ g.first_lap
-lap-first g f c now =
-    let start_is : first_free (start g) c ≡ first_frame g = grind (arith, nat_tests) in
-    let low : first_frame g ≤ f = omega (arith, start_is, now.low) in
-    let high : f < first_frame g + g.frames = omega (arith, start_is, now.high) in
-    let rest : f - g.first_lap * g.frames < g.frames = omega arith in
-    let split : f ≡ g.first_lap * g.frames + (f - g.first_lap * g.frames) = omega arith in
-    ap (λ x. x / g.frames) split ∙ div-mul-add g.first_lap g.frames (f - g.first_lap * g.frames) rest
+lap-first g f c now = grind (arith, nat_tests)
 
 pub word_at-new : (g : Geometry) (members word f c : ℕ) → c < g.channels → word_at (new_view g members word) f c ≡ word
 word_at-new g members word f c in_range = get_or-replicate (g.frames * g.channels) (word_index g f c) word 0 (word_index-lt g f c in_range)

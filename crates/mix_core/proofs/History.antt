@@ -1,11 +1,11 @@
 -- Each event of a core appends its row to every history that the core represents.
-use Rattle.mix_core.specs.Prelude.{ap, arith, Bool, false, length, List, nat_lt, pos, refl, subst, sym, ℕ, ℤ, [], ◌++◌, ◌+ℤ◌, ◌+◌, ◌<◌, ◌∙◌, ◌∷◌, ◌≡◌, ◌≢◌, ◌≤◌}
-use Rattle.mix_core.specs.Prelude.{nat_tests, length-set, fold_push, Cursor, first_frame, first_free, lap, clamp_of, count_of, lap_of, StandsFor, sum_of}
-use Rattle.mix_core.specs.Prelude.{Publish, Take, In, LapEnd, Published, Took, Taken, Entry, entry_of, entry_row, is_taken, IsReply, laid_of, position_after}
-use Rattle.mix_core.specs.Prelude.{position_of, Row, taken_words, taking_of, total, value_of, IsLegal-more, filter_map-none, filter_map-some, IsNow, IsSound}
-use Rattle.mix_core.specs.Prelude.{Agrees, RepresentsHistory, View, word_at}
+use Rattle.mix_core.specs.Prelude.{ap, arith, Bool, false, length, List, pos, refl, subst, sym, ℕ, ℤ, [], ◌++◌, ◌+ℤ◌, ◌+◌, ◌<◌, ◌∙◌, ◌∷◌, ◌≡◌, ◌≢◌, ◌≤◌}
+use Rattle.mix_core.specs.Prelude.{nat_tests, length-set, fold_push, Cursor, first_frame, lap, clamp_of, count_of, lap_of, StandsFor, sum_of, Publish, Take, In}
+use Rattle.mix_core.specs.Prelude.{LapEnd, Published, Took, Taken, Entry, entry_of, entry_row, is_taken, IsReply, laid_of, position_after, position_of, Row}
+use Rattle.mix_core.specs.Prelude.{taken_words, taking_of, total, value_of, IsLegal-more, filter_map-none, filter_map-some, IsNow, IsSound, Agrees}
+use Rattle.mix_core.specs.Prelude.{RepresentsHistory, View, word_at}
 use Rattle.mix_core.specs.HistoryLaws.{entry_of-row, position_after-row, taking_of-row}
-use Rattle.mix_core.proofs.Agreement.{Agrees-laid, Agrees-published, Agrees-taken, Agrees-unplugged, laid_view, taken_view}
+use Rattle.mix_core.proofs.Agreement.{Agrees-laid, Agrees-published, Agrees-taken, laid_view, taken_view}
 
 -- a publication
 pub RepresentsHistory-published : (v : View) (h : List Row) → v.position ≤ v.next.frame → RepresentsHistory v h
@@ -24,11 +24,7 @@ RepresentsHistory-published v h up s =
 
 -- the card is gone
 pub RepresentsHistory-unplugged : (v : View) (h : List Row) (gone : Bool) → RepresentsHistory v h → RepresentsHistory (record v { gone = gone }) h
-RepresentsHistory-unplugged v h gone s = record {
-  legal = s.legal;
-  position = s.position;
-  agrees = Agrees-unplugged v (laid_of h) (taken_words h) gone s.agrees;
-}
+RepresentsHistory-unplugged v h gone s = grind (arith, nat_tests)
 
 -- a take that was refused
 pub RepresentsHistory-refused : (v : View) (h : List Row) → lap v.geometry v.next.frame ≡ 4294967295 → RepresentsHistory v h → RepresentsHistory v (h ++ (Take, LapEnd) ∷ [])
@@ -83,7 +79,4 @@ RepresentsHistory-laid v h e word sound member now ahead stands s reply =
 
 -- nothing was taken at a frame and channel that the ring has now
 pub untaken-now : (v : View) (h : List Row) (f c : ℕ) → IsSound v → IsNow v.geometry v.next f c → RepresentsHistory v h → is_taken (taken_words h) f c ≡ false
-untaken-now v h f c sound now s =
-    let least : first_frame v.geometry ≤ f = grind (arith, nat_tests, now.low, sound.next_least) in
-    let untaken : nat_lt f (first_free v.next c) ≡ false = grind (arith, nat_tests, now.low) in
-    s.agrees.taken f c now.channel least ∙ untaken
+untaken-now v h f c sound now s = grind (arith, nat_tests)

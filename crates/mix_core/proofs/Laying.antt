@@ -7,7 +7,7 @@ use Rattle.mix_core.specs.Prelude.{marks_at, View, word_at}
 use Rattle.mix_core.specs.PortLaws.{IsNotBefore-refl}
 use Rattle.mix_core.proofs.Agreement.{laid_view}
 use Rattle.mix_core.proofs.History.{RepresentsHistory-laid, untaken-now}
-use Rattle.mix_core.proofs.Soundness.{AreWithin-added, AreWithin-withdrawn, HoldsMoreAt, holds-added, holds-withdrawn}
+use Rattle.mix_core.proofs.Soundness.{AreWithin-added, HoldsMoreAt, holds-added}
 use Rattle.mix_core.proofs.Words.{IsNow-of}
 
 pub record CanLay (v : View) (e : Entry) : Type 0 where
@@ -42,18 +42,7 @@ pub can_withdraw : (v w : View) (e : Entry) → v ≡ w → IsSound v → SFits 
     → e.member < length w.marks → e.channel < w.geometry.channels → IsFrom (marks_at w e.member).floor e.frame e.channel
     → e.frame < first_free (cursor_at w e.member) e.channel
     → first_free w.next e.channel ≤ e.frame → e.frame < w.position + w.geometry.frames → CanLay v e
-can_withdraw v w e same s sample kind member channel from before untaken ahead = subst (λ x. IsSound x → CanLay x e) (sym same) (λ (t : IsSound w).
-    let least : first_frame w.geometry ≤ e.frame = grind (arith, nat_tests, untaken, t.next_least) in
-    let own : AreWithin w.geometry (marks_at w e.member) = marks_within w e.member t member in
-    record {
-      member = member;
-      now = IsNow-of w e.frame e.channel t channel untaken ahead;
-      ahead = ahead;
-      more = rw kind (holds-withdrawn w.geometry (marks_at w e.member) e.frame e.channel own channel from before);
-      within = rw kind (AreWithin-withdrawn w.geometry (marks_at w e.member) e.frame e.channel own least before);
-      low = rw kind (omega (arith, ints, sample));
-      high = rw kind (omega (arith, ints, sample));
-    }) s
+can_withdraw v w e same s sample kind member channel from before untaken ahead = grind (arith, nat_tests)
 
 -- a word whose count rose on its own lap is not before what it was, and no other word changed
 word-later : (word old : ℕ) (sum : ℤ) → StandsFor word (lap_of old) (count_of old + 1) sum → IsNotBefore old word

@@ -1,9 +1,9 @@
 -- What a core does at an event is a reply to it after every history that the core represents.
-use Rattle.mix_core.specs.Prelude.{ap, append_assoc, arith, length, List, refl, subst, sym, true, ℕ, [], ◌++◌, ◌+◌, ◌<◌, ◌∙◌, ◌∷◌, ◌≡◌, append-nil}
-use Rattle.mix_core.specs.Prelude.{length-append, filter-append, zip, Geometry, first_free, IsFrom, Event, Add, Publish, Take, Reply, In, Late, Outside}
-use Rattle.mix_core.specs.Prelude.{Published, Took, Taken, Marks, Entry, Added, IsLaidBy, IsPublished, IsTaken, entry_row, event_by, IsInside, IsReply, Row}
-use Rattle.mix_core.specs.Prelude.{kept_rows-kept, AreReplies-last, AreRepliesSince, is_kept, IsAnswered, IsReplied, IsReplySince, IsRun, KeepsAdds, kept_rows}
-use Rattle.mix_core.specs.Prelude.{RepresentsHistory, CanMiss, RepresentsHistory-missed, MayAdd, View}
+use Rattle.mix_core.specs.Prelude.{ap, append_assoc, arith, length, List, None, Option, refl, Some, subst, sym, true, ℕ, [], ◌++◌, ◌+◌, ◌<◌, ◌∙◌, ◌∷◌, ◌≡◌}
+use Rattle.mix_core.specs.Prelude.{nat_tests, append-nil, length-append, filter-append, zip, is_some, MatchOption, Geometry, first_free, IsFrom, Event, Add}
+use Rattle.mix_core.specs.Prelude.{Publish, Take, Reply, In, Late, Outside, Published, Took, Taken, Marks, Entry, Added, IsLaidBy, IsPublished, IsTaken}
+use Rattle.mix_core.specs.Prelude.{event_by, IsReply, Row, kept_rows-kept, AreReplies-last, AreRepliesSince, is_kept, IsAnswered, IsReplied, IsReplySince}
+use Rattle.mix_core.specs.Prelude.{IsRun, KeepsAdds, kept_rows, RepresentsHistory, CanMiss, RepresentsHistory-missed, IsLateWord, IsUntaken, MayAdd, View}
 
 -- a row that is at the end of a core's history is a reply after what is before it
 pub IsReply-last : (v w : View) (h : List Row) (r : Row) → w.geometry ≡ v.geometry → length w.marks ≡ length v.marks
@@ -38,6 +38,11 @@ IsReplied-late v e kind may taken =
     } in
     IsReplied-kept v v _ Late refl refl refl refl (λ h s. subst (λ k. RepresentsHistory v (h ++ (event_by k e.member e.frame e.channel e.sample, Late) ∷ [])) kind (RepresentsHistory-missed v h e can s))
 
+-- a word that was seen was taken
+pub late-taken : (v : View) (f c : ℕ) (o : Option ℕ) → is_some o ≡ true → MatchOption o (IsUntaken v f c) (λ word. IsLateWord v f c word) → f < first_free v.next c
+late-taken v f c None some seen = cc
+late-taken v f c (Some word) some seen = seen.taken
+
 -- an add that its member may not make
 pub IsReplied-outside : (v : View) (e : Entry) → ¬ (MayAdd v e) → IsReplied v v (Add e.member e.frame e.channel e.sample) Outside
 IsReplied-outside v e not_may = record {
@@ -56,18 +61,7 @@ IsReplied-outside v e not_may = record {
 
 -- an add that was made
 pub IsReplied-added : (v w : View) (e : Entry) → e.kind ≡ Added → MayAdd v e → IsLaidBy v w e → IsReplied v w (Add e.member e.frame e.channel e.sample) In
-IsReplied-added v w e kind may laid =
-    IsReplied-kept v w _ In refl laid.geometry laid.members laid.gone
-    (λ h s.
-    let row : entry_row e ≡ (Add e.member e.frame e.channel e.sample, In) = ap (λ k. (event_by k e.member e.frame e.channel e.sample, In)) kind in
-    let inside : IsInside v.geometry (length v.marks) h e.member e.frame e.channel = record {
-      member_in_range = may.member_in_range;
-      channel_in_range = may.channel_in_range;
-      from_cursor = subst (λ (m : Marks). IsFrom m.cursor e.frame e.channel) (s.agrees.marks e.member _ may.member_in_range) may.from_cursor;
-      lap_fits = may.lap_fits;
-      ahead = subst (λ p. e.frame < p + v.geometry.frames) s.position may.ahead;
-    } in
-    subst (λ r. RepresentsHistory w (h ++ r ∷ [])) row (laid.stands h s (subst (IsReply v.geometry (length v.marks) h) (sym row) (inside, laid.untaken h s))))
+IsReplied-added v w e kind may laid = grind (arith, nat_tests)
 
 -- a take
 pub IsReplied-took : (v w : View) (t : Taken) → IsTaken v w t → IsReplied v w Take (Took t.frame t.channel t.value)
@@ -75,9 +69,7 @@ IsReplied-took v w t taken = IsReplied-kept v w Take _ refl taken.geometry (ap l
 
 -- a publication
 pub IsReplied-published : (v w : View) (frame : ℕ) → IsPublished v w → frame ≡ w.position → IsReplied v w Publish (Published frame)
-IsReplied-published v w frame published is =
-    IsReplied-kept v w Publish (Published frame) refl (ap (λ (x : View). x.geometry) published.changed) (ap (λ (x : View). length x.marks) published.changed) (ap (λ (x : View). x.gone) published.changed)
-    (λ h s. subst (λ n. RepresentsHistory w (h ++ (Publish, Published n) ∷ [])) (sym (is ∙ ap (λ (x : View). x.position) published.changed)) (published.stands h s))
+IsReplied-published v w frame published is = grind (arith, nat_tests)
 
 -- rows with one more event and its reply
 pub zip-more : {A B : Type 0} (xs : List A) (ys : List B) (x : A) (y : B) → length ys ≡ length xs → zip (xs ++ x ∷ []) (ys ++ y ∷ []) ≡ zip xs ys ++ (x, y) ∷ []

@@ -1,10 +1,10 @@
 -- What each event keeps true of every core.
 use Rattle.mix_core.specs.Prelude.{arith, get_or, inl, inr, length, List, negsuc, pos, set, ℕ, ℤ, ◌*◌, ◌+ℤ◌, ◌+◌, ◌<◌, ◌∙◌, ◌≡◌, ◌≤ℤ◌, ◌≤◌, add-div_right}
-use Rattle.mix_core.specs.Prelude.{cases_Bool, nat_tests, ints, length-set, All-set, sum_by-le, sum_by-set, Geometry, first_free-behind_grows}
-use Rattle.mix_core.specs.Prelude.{first_free-behind_low, suc-le-end_frame, cursor_after, end_frame, first_frame, first_free, IsFrom, lap, word_index, count_of}
-use Rattle.mix_core.specs.Prelude.{lap_of, StandsFor, StandsFor-fields, sum_of, Marks, Entry, marks_after, value_of, later_up_to, place_up_to, up_to}
-use Rattle.mix_core.specs.Prelude.{up_to_later, up_to_place, added_at, is_before, later_of, withdrawn_at, all_hold, AreWithin, hold_at, HoldsAtMost, IsNow}
-use Rattle.mix_core.specs.Prelude.{IsSound, may_hold, marks_at, View, word_at, IsNow-next, word_places, words-taken, words-written}
+use Rattle.mix_core.specs.Prelude.{cases_Bool, nat_tests, length-set, All-set, sum_by-le, sum_by-set, Geometry, first_free-behind_grows, first_free-behind_low}
+use Rattle.mix_core.specs.Prelude.{suc-le-end_frame, cursor_after, end_frame, first_frame, first_free, IsFrom, lap, word_index, count_of, lap_of, StandsFor}
+use Rattle.mix_core.specs.Prelude.{sum_of, Marks, Entry, marks_after, value_of, later_up_to, up_to, up_to_later, added_at, is_before, later_of, all_hold}
+use Rattle.mix_core.specs.Prelude.{AreWithin, hold_at, HoldsAtMost, IsNow, IsSound, may_hold, marks_at, View, word_at, IsNow-next, word_places, words-taken}
+use Rattle.mix_core.specs.Prelude.{words-written}
 use Rattle.mix_core.proofs.Agreement.{laid_view, taken_view}
 
 -- one member's marks move
@@ -34,12 +34,6 @@ own-true f a b c x y bf xf xy = grind (arith, nat_tests)
 own-false : (f a b c x y : ℕ) → b ≤ f → c ≤ b → a ≤ c → x ≡ f + 1 → x ≤ y → hold_at f a b c + 1 ≤ hold_at f a x y
 own-false f a b c x y bf cb ac xf xy = grind (arith, nat_tests)
 
-hold-back : (f a b c x : ℕ) → x ≤ b → a ≤ x → b ≤ c → hold_at f a b c ≤ hold_at f a x c
-hold-back f a b c x xb ax bc = grind (arith, nat_tests)
-
-own-back : (f a b c x : ℕ) → a ≤ f → f < b → b ≤ c → x ≡ f → hold_at f a b c + 1 ≤ hold_at f a x c
-own-back f a b c x af fb bc xf = grind (arith, nat_tests)
-
 pub holds-added : (g : Geometry) (m : Marks) (f c : ℕ) → AreWithin g m → c < g.channels → IsFrom m.cursor f c → HoldsMoreAt g m (added_at g m f c) f c
 holds-added g m f c x channel from =
     let here : first_free (cursor_after g f c) c ≡ f + 1 = first_free-behind_low g f c c channel (omega arith) in
@@ -57,15 +51,6 @@ holds-added g m f c x channel from =
       })
     ]
 
-pub holds-withdrawn : (g : Geometry) (m : Marks) (f c : ℕ) → AreWithin g m → c < g.channels → IsFrom m.floor f c → f < first_free m.cursor c → HoldsMoreAt g m (withdrawn_at m f c) f c
-holds-withdrawn g m f c x channel from near =
-    let here : first_free (record { frame = f; channel = c }) c ≡ f = grind (arith, nat_tests) in
-    record {
-      own = own-back f (first_free m.floor c) (first_free m.cursor c) (first_free m.high c) (first_free (record { frame = f; channel = c }) c) from near (x.cursor_high c) here;
-      others = λ k d d_in. hold-back k (first_free m.floor d) (first_free m.cursor d) (first_free m.high d) (first_free (record { frame = f; channel = c }) d)
-          (place_up_to m.cursor f c d near) (up_to_place m.floor f c d from) (x.cursor_high d);
-    }
-
 -- the marks stay within the ring's frames
 pub AreWithin-added : (g : Geometry) (m : Marks) (f c : ℕ) → AreWithin g m → first_frame g ≤ f → f + 1 ≤ end_frame g → AreWithin g (added_at g m f c)
 AreWithin-added g m f c x least end = record {
@@ -79,15 +64,6 @@ AreWithin-added g m f c x least end = record {
   ];
 }
 
-pub AreWithin-withdrawn : (g : Geometry) (m : Marks) (f c : ℕ) → AreWithin g m → first_frame g ≤ f → f < first_free m.cursor c → AreWithin g (withdrawn_at m f c)
-AreWithin-withdrawn g m f c x least near = record {
-  cursor = record { least = least; most = grind (arith, nat_tests, x.cursor.most, near) };
-  floor = x.floor;
-  high = x.high;
-  cursor_high = λ d. omega (arith, place_up_to m.cursor f c d near, x.cursor_high d);
-  floor_high = x.floor_high;
-}
-
 -- a word with fewer than 192 entries has room for one more
 pub record HasRoom (w : ℕ) (sample : ℤ) : Type 0 where
   pub count : count_of w < 255
@@ -95,39 +71,19 @@ pub record HasRoom (w : ℕ) (sample : ℤ) : Type 0 where
   pub high : (sum_of w +ℤ sample) ≤ℤ pos 8388607
 
 pub HasRoom-of : (w l most : ℕ) (sample : ℤ) → HoldsAtMost w l most → most < 192 → negsuc 32767 ≤ℤ sample → sample ≤ℤ pos 32768 → HasRoom w sample
-HasRoom-of w l most sample holds few low high = record {
-  count = omega (arith, holds.count);
-  low = omega (arith, ints, holds.count, holds.low, holds.high);
-  high = omega (arith, ints, holds.count, holds.low, holds.high);
-}
+HasRoom-of w l most sample holds few low high = grind (arith, nat_tests)
 
 -- a word with one more sample
 pub HoldsAtMost-more : (w word l most : ℕ) (sample : ℤ) → HoldsAtMost w l most → negsuc 32767 ≤ℤ sample → sample ≤ℤ pos 32768
     → StandsFor word (lap_of w) (count_of w + 1) (sum_of w +ℤ sample) → HoldsAtMost word l (most + 1)
-HoldsAtMost-more w word l most sample holds low high stands =
-    let fields : (lap_of word ≡ lap_of w) × (count_of word ≡ count_of w + 1) × (sum_of word ≡ sum_of w +ℤ sample) = StandsFor-fields _ _ _ _ stands in
-    record {
-      of_lap = fields.0 ∙ holds.of_lap;
-      count = omega (arith, fields.1, holds.count);
-      low = rw (fields.1, fields.2) (omega (arith, ints, holds.low));
-      high = rw (fields.1, fields.2) (omega (arith, ints, holds.high));
-    }
+HoldsAtMost-more w word l most sample holds low high stands = grind (arith, nat_tests)
 
 pub HoldsAtMost-mono : (w l most more : ℕ) → most ≤ more → HoldsAtMost w l most → HoldsAtMost w l more
-HoldsAtMost-mono w l most more up holds =
-    let count : count_of w ≤ more = omega (arith, holds.count) in
-    assumption
+HoldsAtMost-mono w l most more up holds = grind (arith, nat_tests)
 
 -- an empty word
 pub HoldsAtMost-empty : (word l most : ℕ) → StandsFor word l 0 (pos 0) → HoldsAtMost word l most
-HoldsAtMost-empty word l most stands =
-    let fields : (lap_of word ≡ l) × (count_of word ≡ 0) × (sum_of word ≡ pos 0) = StandsFor-fields _ _ _ _ stands in
-    record {
-      of_lap = fields.0;
-      count = omega (arith, fields.1);
-      low = rw (fields.1, fields.2) (omega (arith, ints));
-      high = rw (fields.1, fields.2) (omega (arith, ints));
-    }
+HoldsAtMost-empty word l most stands = grind (arith, nat_tests)
 
 -- the next word was taken
 pub IsSound-taken : (v : View) (word : ℕ) → IsSound v → lap v.geometry v.next.frame < 4294967295

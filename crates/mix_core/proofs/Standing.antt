@@ -1,12 +1,12 @@
 -- What the standing adds of a run are after one more event, and what a withdrawal replies by them.
 use Rattle.mix_core.specs.Prelude.{ap, append_assoc, arith, drop, false, fold, inl, inr, length, List, nat_lt, None, refl, Some, subst, sym, take, true, ℕ, ℤ}
 use Rattle.mix_core.specs.Prelude.{[], ◌++◌, ◌+◌, ◌<◌, ◌∙◌, ◌∷◌, ◌≡◌, ◌≢◌, ◌≤◌, cases_eq, nat_tests, append-nil, filter-append, filter_map-append, fold-append}
-use Rattle.mix_core.specs.Prelude.{fold_push, nat_eq, slice_index_or, ⊤, Geometry, first_frame, first_free, IsFrom, Event, Add, Publish, Take, Withdraw, Reply}
-use Rattle.mix_core.specs.Prelude.{In, LapEnd, Late, Outside, Published, Took, Marks, Entry, Added, Withdrawn, IsLaidBy, held-at, HeldPlace, last_is}
-use Rattle.mix_core.specs.Prelude.{missed-back, entry_of, is_taken, IsHeld, IsReply, IsSample, laid_of, Row, AreAlike-kept, IsReply-alike, laid_of-kept}
-use Rattle.mix_core.specs.Prelude.{a_withdrawal, last_entry, marks_of, own_entries, stand_after, standing, standing_of, standing_with, without_last, AreLeast}
-use Rattle.mix_core.specs.Prelude.{marks_of-least, without_last-more, last_entry-more, own-more, own-more_other, standing_of-other, standing_of-own, IsAnswered}
-use Rattle.mix_core.specs.Prelude.{IsHeldSince, IsLastOf, IsReplied, IsReplySince, KeepsAdds, kept_rows, MayWithdraw, RepresentsHistory, View}
+use Rattle.mix_core.specs.Prelude.{fold_push, slice_index_or, ⊤, Geometry, first_frame, first_free, IsFrom, Event, Take, Withdraw, Reply, In, LapEnd, Late}
+use Rattle.mix_core.specs.Prelude.{Outside, Published, Took, Marks, Entry, Added, Withdrawn, IsLaidBy, held-at, HeldPlace, last_is, missed-back, entry_of}
+use Rattle.mix_core.specs.Prelude.{is_taken, IsHeld, IsReply, IsSample, laid_of, Row, AreAlike-kept, IsReply-alike, laid_of-kept, a_withdrawal, last_entry}
+use Rattle.mix_core.specs.Prelude.{marks_of, own_entries, stand_after, standing, standing_of, standing_with, without_last, AreLeast, marks_of-least}
+use Rattle.mix_core.specs.Prelude.{without_last-more, last_entry-more, own-more, own-more_other, standing_of-other, standing_of-own, IsAnswered, IsHeldSince}
+use Rattle.mix_core.specs.Prelude.{IsLastOf, IsReplied, IsReplySince, KeepsAdds, kept_rows, MayWithdraw, RepresentsHistory, View}
 
 -- a row that places nothing
 pub keeps-nothing : (st : List Entry) (rows : List Row) (r : Row) → entry_of r ≡ None → KeepsAdds st rows → KeepsAdds st (rows ++ r ∷ [])
@@ -70,14 +70,10 @@ split_at (x ∷ xs) (Rattle.std.proofs.Common.suc i) d within =
     rw next (ap (λ ys. x ∷ ys) (split_at xs i d (omega (arith, within))))
 
 own-cons : (m : ℕ) (x : Entry) (xs : List Entry) → x.member ≡ m → own_entries m (x ∷ xs) ≡ x ∷ own_entries m xs
-own-cons m x xs same =
-    let test : (nat_eq x.member m) ≡ true = grind (arith, nat_tests) in
-    rw test refl
+own-cons m x xs same = grind (arith, nat_tests)
 
 pub own-cons_other : (m : ℕ) (x : Entry) (xs : List Entry) → x.member ≢ m → own_entries m (x ∷ xs) ≡ own_entries m xs
-own-cons_other m x xs other =
-    let test : (nat_eq x.member m) ≡ false = grind (arith, nat_tests) in
-    rw test refl
+own-cons_other m x xs other = grind (arith, nat_tests)
 
 own-append : (m : ℕ) (xs ys : List Entry) → own_entries m (xs ++ ys) ≡ own_entries m xs ++ own_entries m ys
 own-append m xs ys = filter-append _ xs ys
@@ -181,28 +177,29 @@ may-since v h rows st e x i k last s held =
       ahead = place.ahead;
     }
 
--- a withdrawal of a member that has no standing add
-pub answered-none : (v : View) (st : List Entry) (m f c : ℕ) (s : ℤ) → own_entries m st ≡ [] → IsAnswered v v st st (Withdraw m f c s) Outside
-answered-none v st m f c s none = record {
+-- a withdrawal that the run may not make
+answered-refused : (v : View) (st : List Entry) (m f c : ℕ) (s : ℤ)
+    → ((h rows : List Row) → KeepsAdds st rows → RepresentsHistory v (h ++ kept_rows rows) → ¬ IsHeldSince v.geometry (length v.marks) h rows m f c s)
+    → IsAnswered v v st st (Withdraw m f c s) Outside
+answered-refused v st m f c s not_held = record {
   geometry = refl;
   members = refl;
   gone = refl;
-  reply = λ h rows k stands held. subst (λ o. IsSample o f c s) (ap last_entry (sym (k.holds m) ∙ none)) held.last;
+  reply = not_held;
   stands = λ h rows k stands. subst (RepresentsHistory v) (sym (append-nil (h ++ kept_rows rows))) stands;
   keeps = λ rows k. keeps-nothing st rows (Withdraw m f c s, Outside) refl k;
 }
 
+-- one of a member that has no standing add
+pub answered-none : (v : View) (st : List Entry) (m f c : ℕ) (s : ℤ) → own_entries m st ≡ [] → IsAnswered v v st st (Withdraw m f c s) Outside
+answered-none v st m f c s none =
+    answered-refused v st m f c s (λ h rows k stands held. subst (λ o. IsSample o f c s) (ap last_entry (sym (k.holds m) ∙ none)) held.last)
+
 -- one of another sample, or before the floor, or out of range
 pub answered-outside : (v : View) (st : List Entry) (e x : Entry) (i : ℕ) → AtLast st e.member i x → ¬ (MayWithdraw v e x)
     → IsAnswered v v st st (Withdraw e.member e.frame e.channel e.sample) Outside
-answered-outside v st e x i last not_may = record {
-  geometry = refl;
-  members = refl;
-  gone = refl;
-  reply = λ h rows k stands held. not_may (may-since v h rows st e x i k last stands held);
-  stands = λ h rows k stands. subst (RepresentsHistory v) (sym (append-nil (h ++ kept_rows rows))) stands;
-  keeps = λ rows k. keeps-nothing st rows (Withdraw e.member e.frame e.channel e.sample, Outside) refl k;
-}
+answered-outside v st e x i last not_may =
+    answered-refused v st e.member e.frame e.channel e.sample (λ h rows k stands held. not_may (may-since v h rows st e x i k last stands held))
 
 -- one of a frame and channel that were taken
 pub answered-late : (v : View) (st : List Entry) (m f c : ℕ) (s : ℤ) (x : Entry) (i : ℕ) → AtLast st m i x → MayWithdraw v (a_withdrawal m f c s) x → f < first_free v.next c
@@ -248,10 +245,7 @@ IsOther e = ⊤
 
 -- every other event is answered as after any history
 since-other : (g : Geometry) (members : ℕ) (h rows : List Row) (e : Event) (r : Reply) → IsOther e → IsReply g members (h ++ rows) (e, r) → IsReplySince g members h rows (e, r)
-since-other g members h rows (Add m f c s) r other is = is
-since-other g members h rows (Withdraw m f c s) r other is = absurd other
-since-other g members h rows Take r other is = is
-since-other g members h rows Publish r other is = is
+since-other g members h rows e r other is = grind (arith, nat_tests)
 
 pub answered-other : (v w : View) (st su : List Entry) (e : Event) (r : Reply) → IsOther e → IsReplied v w e r → ((rows : List Row) → KeepsAdds st rows → KeepsAdds su (rows ++ (e, r) ∷ []))
     → IsAnswered v w st su e r

@@ -1,12 +1,13 @@
 -- What a turn's placements and withdrawals end in, by their asks.
-use Rattle.mix_core.specs.Prelude.{ap, arith, List, refl, Some, subst, sym, ℕ, [], ◌+◌, ◌<◌, ◌∷◌, ◌≡◌, Entry, Lays, core_of, TurnFinds, TurnLaid, TurnLoaded}
-use Rattle.mix_core.specs.Prelude.{TurnMissed, view_of_turn, word_of_turn, IsLateWord, IsUntaken, word_at}
+use Rattle.mix_core.specs.Prelude.{ap, arith, length, List, refl, Some, subst, sym, ℕ, [], ◌+◌, ◌-◌, ◌<◌, ◌∷◌, ◌≡◌, Entry, IsAskNumber, Lays, core_of}
+use Rattle.mix_core.specs.Prelude.{TurnFinds, TurnLaid, TurnLoaded, TurnMissed, view_of_turn, word_of_turn, IsLateWord, IsUntaken, word_at}
 use Rattle.mix_core.specs.declared.gate.Pass.{Pass}
 use Rattle.mix_core.specs.declared.gate.Pass.TheVariants.{Go, Stop}
 use Rattle.mix_core.specs.declared.gate.StepKind.{StepKind}
 use Rattle.mix_core.specs.declared.gate.StepKind.TheVariants.{Look, Exchange}
 use Rattle.mix_core.specs.declared.port.Ended.TheVariants.{Late, Stopped, Whole}
 use Rattle.mix_core.specs.declared.turn.Turn.{Turn}
+use Rattle.mix_core.specs.Gate.{placement_asks}
 
 -- a turn as it was, but for how its core is borrowed
 pub record IsSame (t u : Turn) : Type 0 where
@@ -57,44 +58,38 @@ lays-late stops asked t u g h e word same channel late missed asks told = record
   stopped = told;
 }
 
--- the gate stops the look
-pub lays-unseen : {T : Type 0} (stops : T → ℕ) (asked : T → T → List StepKind → Pass → Type 0) (t u : Turn) (g h : T) (e : Entry)
-    → IsSame t u → asked g h (Look ∷ []) Stop → stops h ≡ stops g + 1 → Lays view_of_turn TurnLaid TurnLoaded word_of_turn TurnFinds stops asked t g e Stopped u h
-lays-unseen stops asked t u g h e same asks told = record {
+-- the gate stops the look, or the exchange
+pub lays-stopped : {T : Type 0} (stops : T → ℕ) (asked : T → T → List StepKind → Pass → Type 0) (t u : Turn) (g h : T) (e : Entry) (words : List ℕ) (n : ℕ)
+    → IsSame t u → TurnFinds t u e Stopped words → IsAskNumber Stopped e.frame (view_of_turn t).seen n → length words ≡ n - 1
+    → asked g h (placement_asks n) Stop → stops h ≡ stops g + 1
+    → Lays view_of_turn TurnLaid TurnLoaded word_of_turn TurnFinds stops asked t g e Stopped u h
+lays-stopped stops asked t u g h e words n same found number words_number asks told = record {
   view_is = view_stays t u same;
   laid_it = laid_nothing t u same;
   loaded_nothing = loaded_nothing t u same;
   not_before_seen = tt;
   shown = tt;
-  words = [];
-  found = record { in_time = tt; late = tt; missed = tt; are_found = tt };
+  words = words;
+  found = found;
   found_last = tt;
-  asks = 1;
-  asks_number = (omega arith, λ before. refl);
-  words_number = refl;
+  asks = n;
+  asks_number = number;
+  words_number = words_number;
   asked_them = asks;
   stopped = told;
 }
 
--- the gate stops the exchange
+pub lays-unseen : {T : Type 0} (stops : T → ℕ) (asked : T → T → List StepKind → Pass → Type 0) (t u : Turn) (g h : T) (e : Entry)
+    → IsSame t u → asked g h (Look ∷ []) Stop → stops h ≡ stops g + 1 → Lays view_of_turn TurnLaid TurnLoaded word_of_turn TurnFinds stops asked t g e Stopped u h
+lays-unseen stops asked t u g h e same asks told =
+    lays-stopped stops asked t u g h e [] 1 same (record { in_time = tt; late = tt; missed = tt; are_found = tt }) (omega arith, λ before. refl) refl asks told
+
 pub lays-unmade : {T : Type 0} (stops : T → ℕ) (asked : T → T → List StepKind → Pass → Type 0) (t u : Turn) (g h : T) (e : Entry)
     → IsSame t u → IsUntaken (core_of t) e.frame e.channel → asked g h (Look ∷ Exchange ∷ []) Stop → stops h ≡ stops g + 1
     → Lays view_of_turn TurnLaid TurnLoaded word_of_turn TurnFinds stops asked t g e Stopped u h
-lays-unmade stops asked t u g h e same untaken asks told = record {
-  view_is = view_stays t u same;
-  laid_it = laid_nothing t u same;
-  loaded_nothing = loaded_nothing t u same;
-  not_before_seen = tt;
-  shown = tt;
-  words = word_at (core_of t) e.frame e.channel ∷ [];
-  found = record { in_time = tt; late = tt; missed = tt; are_found = refl };
-  found_last = tt;
-  asks = 2;
-  asks_number = (omega arith, λ before. absurd (omega (arith, before, untaken.published)));
-  words_number = refl;
-  asked_them = asks;
-  stopped = told;
-}
+lays-unmade stops asked t u g h e same untaken asks told =
+    lays-stopped stops asked t u g h e (word_at (core_of t) e.frame e.channel ∷ []) 2 same (record { in_time = tt; late = tt; missed = tt; are_found = refl })
+    (omega arith, λ before. absurd (omega (arith, before, untaken.published))) refl asks told
 
 -- the look finds the frame's own lap, and the exchange is made
 pub lays-whole : {T : Type 0} (stops : T → ℕ) (asked : T → T → List StepKind → Pass → Type 0) (t u : Turn) (g h : T) (e : Entry)

@@ -20,11 +20,7 @@ untaken-by_lap v f c s in_range same =
     ]
 
 pub taken-by_lap : (v : View) (f c : ℕ) → IsSound v → c < v.geometry.channels → f < v.position + v.geometry.frames → lap_of (word_at v f c) ≢ lap v.geometry f → f < first_free v.next c
-taken-by_lap v f c s in_range ahead other =
-    elim (cases_lt f (first_free v.next c)) [
-      | inl before ↦ before
-      | inr not_before ↦ absurd (other (s.words_now f c (record { channel = in_range; low = not_before; high = grind (arith, nat_tests, s.position_most) })).of_lap)
-    ]
+taken-by_lap v f c s in_range ahead other = grind (arith, nat_tests)
 
 -- a frame that is not taken and less than the ring's length past the position is one that the ring has now
 pub IsNow-of : (v : View) (f c : ℕ) → IsSound v → c < v.geometry.channels → first_free v.next c ≤ f → f < v.position + v.geometry.frames → IsNow v.geometry v.next f c

@@ -36,9 +36,14 @@ impl Marks {
         ensures { result ≡ added_at geometry.now self.now frame channel }
     {
         let cursor = Cursor::behind(geometry, frame, channel);
+        let floor = if is_before(self.cursor, self.high) {
+            self.high
+        } else {
+            self.floor
+        };
         Marks {
             cursor,
-            floor: floor_after(self.cursor, self.floor, self.high),
+            floor,
             high: later(self.high, cursor),
         }
     }
@@ -67,10 +72,4 @@ pub fn later(a: Cursor, b: Cursor) -> Cursor
     ensures { result ≡ Rattle.mix_core.specs.Marks.later_of a b }
 {
     if is_before(a, b) { b } else { a }
-}
-
-fn floor_after(cursor: Cursor, floor: Cursor, high: Cursor) -> Cursor
-    ensures { result ≡ Rattle.mix_core.specs.Marks.floor_after cursor floor high }
-{
-    if is_before(cursor, high) { high } else { floor }
 }

@@ -1,11 +1,10 @@
 -- Splits and joins keep the rule, and what they make of the fields of the seats.
-use Rattle.snoop_table.specs.Prelude.{ap, arith, Bool, false, get_or, inl, inr, List, max, None, Option, refl, set, Some, subst, sym, true, ℕ, ◌+◌, ◌||◌, ◌∙◌}
-use Rattle.snoop_table.specs.Prelude.{◌≡◌, ◌≤◌, ◌⊎◌, false≢true, or_left, or_right, at_longer, at_set, Allows, Joins, keeps, Me, Splits, step, get_elem?, none}
-use Rattle.snoop_table.specs.Prelude.{some, some-ne-none, Geometry, Cursor, lap, HoldsSample-fields, laps_of, at_append, at_second, later_notes-keeps}
-use Rattle.snoop_table.specs.Prelude.{later_notes-length, later_notes-one, no_note, has_all-more, has_each, NotPast-upper, index_of, NotPast, rank, Desk}
-use Rattle.snoop_table.specs.Prelude.{ReaderSeat, Track, View, Holds, is_tracked, IsView, LoadsStored, position_of, the_track, word_in, both_of, either_track}
-use Rattle.snoop_table.specs.Prelude.{part_of, spent_view, DeskGave, DeskHeard, IsBorneOut, IsReader, IsWriter, view_of, Knows, quiet_load, desk_track}
-use Rattle.snoop_table.specs.Prelude.{desk_view}
+use Rattle.snoop_table.specs.Prelude.{ap, arith, Bool, get_or, inl, inr, List, max, None, Option, refl, set, Some, subst, sym, true, ℕ, ◌+◌, ◌||◌, ◌∙◌, ◌≡◌}
+use Rattle.snoop_table.specs.Prelude.{◌≤◌, ◌⊎◌, false≢true, or_left, or_right, nat_tests, at_longer, at_set, Allows, Joins, keeps, Me, Splits, step, get_elem?}
+use Rattle.snoop_table.specs.Prelude.{none, some, Geometry, Cursor, lap, HoldsSample-fields, laps_of, at_append, at_second, later_notes-keeps}
+use Rattle.snoop_table.specs.Prelude.{later_notes-length, later_notes-one, has_all-more, has_each, NotPast-upper, index_of, NotPast, rank, Desk, ReaderSeat}
+use Rattle.snoop_table.specs.Prelude.{Track, View, Holds, is_tracked, IsView, LoadsStored, position_of, the_track, word_in, both_of, either_track, part_of}
+use Rattle.snoop_table.specs.Prelude.{spent_view, DeskGave, DeskHeard, IsBorneOut, IsReader, IsWriter, view_of, Knows, quiet_load, desk_track, desk_view}
 use Rattle.ring_rule.specs.SeatLaws.{HasTrack-join, HasTrack-split, each-join, each-split, or_true}
 use Rattle.snoop_table.proofs.Keeps.{IsSo, idle, loaded, tracked_some}
 
@@ -51,14 +50,7 @@ both_ok g words t v w a b = record {
 }
 
 spent_ok : (g : Geometry) (words : List ℕ) (t : Track) → IsView g words t spent_view
-spent_ok g words t = record {
-  seen_high = omega arith;
-  positions = λ i p there. absurd (some-ne-none p (sym there));
-  gone = λ is. absurd (false≢true is);
-  noted = λ i n positive there. absurd (no_note n there);
-  got = λ i f there. absurd (some-ne-none f (sym there));
-  loading = λ c inside. absurd (omega arith);
-}
+spent_ok g words t = grind (arith, nat_tests)
 
 -- a seat takes over what another one knows
 pub joins : (g : Geometry) (id : ℕ) (v : View) (other : ℕ) (w : View) → Joins (Holds g) id v other w (both_of v w) spent_view
@@ -172,9 +164,7 @@ heard_knows v w slots found x r tracked both told =
     subst (λ y. Knows y t) both (told.1 t (ap (λ (y : View). y.track) both ∙ both_track))
 
 seen_by : (a b : Bool) (gone : Bool) → a ≡ gone → ((a || b) ≡ true → gone ≡ true) → (a || b) ≡ gone
-seen_by true b gone same is = same
-seen_by false true gone same is = sym (is refl)
-seen_by false false gone same is = same
+seen_by a b gone same is = grind (arith, nat_tests)
 
 -- what a writer's fields say after it heard of another seat
 pub known_heard : (g : Geometry) (next : Cursor) (position : ℕ) (gone : Bool) (other : ℕ) (v w : View) (slots found : ℕ) (x r : Me (Unit {0}) View)

@@ -126,9 +126,7 @@ by_slots g words f k c same = ap (λ s. get_or words (s * g.channels + c + 1) 0)
 
 -- a frame before the position is stored in each channel
 pub stored-before : (g : Geometry) (words : List ℕ) (t : Track) (f c : ℕ) → IsRing g words t → f < position_of g t → f < first_free (next_to_store g t) c
-stored-before g words t f c r before =
-    let earlier : f < (next_to_store g t).frame = omega (arith, before, r.not_ahead) in
-    grind (arith, nat_tests, earlier)
+stored-before g words t f c r before = grind (arith, nat_tests)
 
 -- what a seat is shown by a word
 finds : (words : List ℕ) (t : Track) (v : View) (f c : ℕ) → IsRing v.geometry words t → IsView v.geometry words t v
@@ -150,9 +148,7 @@ before-length v (suc c) after = after (omega arith)
 
 before-sample : (g : Geometry) (xs : List ℤ) (v : View) (f c d : ℕ) → (0 < c → v.loading.number ≡ f) → (0 < c → length v.loading.samples ≡ c) → d < c
     → LoadsStored g xs v.loading → IsSample g xs f d (get_or (samples_before v c) d (pos 0))
-before-sample g xs v f zero d of_frame after before part = absurd (omega arith)
-before-sample g xs v f (suc c) d of_frame after before part =
-    subst (λ k. IsSample g xs k d (get_or v.loading.samples d (pos 0))) (of_frame (omega arith)) (part d (omega (arith, before, after (omega arith))))
+before-sample g xs v f c d of_frame after before part = grind (arith, nat_tests)
 
 -- one more sample
 part-more : (g : Geometry) (xs : List ℤ) (v : View) (f c : ℕ) (x : ℤ) → (0 < c → v.loading.number ≡ f) → (0 < c → length v.loading.samples ≡ c)
@@ -299,9 +295,6 @@ old_laps g words t r =
           omega (arith, ap laps_of there, is, div-lt_same g.frames k next.frame same (omega (arith, up, some)))
     ]
 
-rank-up : (old new : ℕ) → laps_of old < laps_of new → rank old < rank new
-rank-up old new up = grind (arith, up)
-
 -- the ring after the next sample was stored
 ring_stored : (g : Geometry) (words : List ℕ) (t : Track) (word : ℕ) (x : ℤ) → IsRing g words t → lap g (next_to_store g t).frame < 4294967295
     → HoldsSample word (lap g (next_to_store g t).frame + 1) x
@@ -342,7 +335,8 @@ stores_at s slots id m at t word tracks writer x here fits holds =
     let in_range = next_after_stored-channel g t.stored in
     let inside : i < length s.words = omega (arith, index_of-lt g next.frame next.channel in_range, x.ring.room) in
     let new_laps : laps_of word ≡ lap g next.frame + 1 = (HoldsSample-fields _ _ _ holds).0 in
-    let up : rank (get_or s.words i 0) < rank word = rank-up (get_or s.words i 0) word (omega (arith, new_laps, old_laps g s.words t x.ring)) in
+    let laps_up : laps_of (get_or s.words i 0) < laps_of word = omega (arith, new_laps, old_laps g s.words t x.ring) in
+    let up : rank (get_or s.words i 0) < rank word = grind (arith, laps_up) in
     let later : Later g s.words (set s.words i word) t u = record {
       position = omega arith;
       published = λ p is. is;
@@ -411,9 +405,6 @@ ring_published g words t r =
     let last : position_of g (track_published t p) ≡ p = last_number-more (first_frame g) t.published p in
     subst (λ q. IsRing g (set words 0 (word_of q t.gone)) (track_published t p)) last
     (ring_told g words t (t.published ++ p ∷ []) t.gone r (Rising-more (first_frame g) t.published p r.rising r.not_ahead) (omega (arith, last)))
-
-ring_gone : (g : Geometry) (words : List ℕ) (t : Track) → IsRing g words t → IsRing g (set words 0 (word_of (position_of g t) true)) (track_gone t)
-ring_gone g words t r = ring_told g words t t.published true r r.rising r.not_ahead
 
 -- the writer's store of its position
 pub publishes : (slots id : ℕ) (m : Me (Unit {0}) View) (next : Cursor) (gone : Bool)
@@ -491,6 +482,6 @@ unplugs slots id m position is position_is s x homes here small =
       keeps,
       tt,
       subst (λ q. Holds g (record { words = set s.words 0 (word_of q true); homes = s.homes; views = set s.views id w })) (sym (position_is t tracks))
-          (x.0, u, ring_gone g s.words t x.2, views),
+          (x.0, u, ring_told g s.words t t.published true x.2 x.2.rising x.2.not_ahead, views),
       (t, tracks, refl),
     )

@@ -66,7 +66,3 @@ opens g silent holds =
             ((at_only v i u there).0, sym (ap (track_or first_track) (ap (λ (x : View). x.track) (at_only v i u there).1 ∙ tracks)));
       },
     )
-
-pub opens_at : (g : Geometry) (silent : ℕ) (words : List ℕ) → words ≡ new_words g silent → HoldsSample silent g.first_lap (pos 0)
-    → Holds g (opening {S = Unit {0}} {V = View} words [] (first_view g))
-opens_at g silent words are holds = subst (λ ws. Holds g (opening {S = Unit {0}} {V = View} ws [] (first_view g))) (sym are) (opens g silent holds)

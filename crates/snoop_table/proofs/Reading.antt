@@ -1,31 +1,15 @@
 -- What a reader's steps may do and do, said of the fields of its seat.
-use Rattle.snoop_table.specs.Prelude.{ap, arith, get_or, inl, inr, length, None, refl, set, Some, subst, sym, ℕ, ◌+◌, ◌<◌, ◌∙◌, ◌≡◌, ◌≤◌, cases_eq}
-use Rattle.snoop_table.specs.Prelude.{get_or-set_same, Allows, Me, step, none, Geometry, end_frame, lap, gone_in, position_in, word_of-fields, laps_of}
-use Rattle.snoop_table.specs.Prelude.{sample_of, NeverFall-same, NeverFall-set, position_fits, index_of-lt, index_of, ReaderSeat, View, Holds, IsReader}
-use Rattle.snoop_table.specs.Prelude.{HasLocated, HasLooked, view_of, IsNext, position_load, with_note, with_position, with_sample, word_load}
+use Rattle.snoop_table.specs.Prelude.{ap, arith, get_or, length, None, set, Some, subst, sym, ℕ, ◌+◌, ◌<◌, ◌∙◌, ◌≡◌, ◌≤◌, nat_tests, get_or-set_same, Me, step}
+use Rattle.snoop_table.specs.Prelude.{none, Geometry, end_frame, lap, gone_in, position_in, word_of-fields, sample_of, NeverFall-same, NeverFall-set}
+use Rattle.snoop_table.specs.Prelude.{position_fits, index_of-lt, index_of, ReaderSeat, View, IsReader, HasLocated, HasLooked, view_of, position_load}
+use Rattle.snoop_table.specs.Prelude.{with_note, with_position, with_sample, word_load}
 use Rattle.mix_core.specs.declared.port.Position.{Position}
 use Rattle.ring_rule.specs.Notes.{NeverFall}
-use Rattle.snoop_table.proofs.Keeps.{locates, looks}
 
 -- a load of the position
-pub may_locate : (s : ReaderSeat) (slots : ℕ) → Allows (Holds s.ring.now.key) slots s.seat.id s.seat.me 0 (λ n. n) (position_load (step slots 0 0 0 none) s.seat.me)
-may_locate s slots = rw (← s.same_ring.1, ← s.known.same_geometry) (locates slots s.seat.id s.seat.me)
-
 pub known_located : (g : Geometry) (seen slots n : ℕ) (m r : Me (Unit {0}) View) → IsReader m.0 g seen → position_load (step slots 0 0 0 none) m n r
     → IsReader r.0 g (position_in n)
-known_located g seen slots n m r is told =
-    let p : ℕ = told.0 in
-    let end : p ≤ end_frame g = subst (λ (k : Geometry). p ≤ end_frame k) is.same_geometry told.5 in
-    let fields = word_of-fields p told.1 (position_fits g p end) in
-    let read : position_in n ≡ p = ap position_in told.3 ∙ fields.0 in
-    let known : IsReader (with_position m.0 p told.1) g p = record {
-      same_geometry = is.same_geometry;
-      same_seen = refl;
-      untracked = is.untracked;
-      room = is.room;
-      seen_within = record { least = omega (arith, is.seen_within.least, told.4, is.same_seen); most = end };
-    } in
-    subst (λ q. IsReader r.0 g q) (sym read) (subst (λ (y : Me (Unit {0}) View). IsReader y.0 g p) (sym told.2) known)
+known_located g seen slots n m r is told = grind (arith, nat_tests)
 
 pub has_located : (s t : ReaderSeat) (slots n : ℕ) (p : Position) → t.seat.table_id ≡ s.seat.table_id → t.geometry ≡ s.geometry → t.seen ≡ p.frame
     → p.frame ≡ position_in n → p.gone ≡ gone_in n → position_load (step slots 0 0 0 none) s.seat.me n t.seat.me → HasLocated s t p
@@ -46,11 +30,6 @@ has_located s t slots n p ring geometry seen frame gone told =
       gone = λ is. gone_is ∙ told.6 is;
     }
 
--- a load of the next word of a frame
-pub may_look : (s : ReaderSeat) (slots i f c : ℕ) → IsNext (view_of s) f c → i ≡ index_of s.geometry f c
-    → Allows (Holds s.ring.now.key) slots s.seat.id s.seat.me i (λ n. n) (word_load f c (step slots i 0 0 none) s.seat.me)
-may_look s slots i f c next index = rw (index, ← s.same_ring.1, ← s.known.same_geometry) (looks slots s.seat.id s.seat.me f c next)
-
 -- either way, the fields stay and the word is noted
 pub record IsLooked (v w : View) (i n : ℕ) : Type 0 where
   pub geometry : w.geometry ≡ v.geometry
@@ -59,10 +38,7 @@ pub record IsLooked (v w : View) (i n : ℕ) : Type 0 where
   pub noted : w.noted ≡ set v.noted i (Some n)
 
 pub is_looked : (f c slots i n : ℕ) (m r : Me (Unit {0}) View) → word_load f c (step slots i 0 0 none) m n r → IsLooked m.0 r.0 i n × (r.1 ≡ m.1)
-is_looked f c slots i n m r told = elim (cases_eq (laps_of n) (lap m.0.geometry f + 1)) [
-  | inl own ↦ rw (told.1 own) (record { geometry = refl; seen = refl; track = refl; noted = refl }, refl)
-  | inr other ↦ rw (told.2 other) (record { geometry = refl; seen = refl; track = refl; noted = refl }, refl)
-]
+is_looked f c slots i n m r told = grind (arith, nat_tests)
 
 pub has_looked : (s t : ReaderSeat) (slots i f c n : ℕ) → t.seat.table_id ≡ s.seat.table_id → t.geometry ≡ s.geometry → t.seen ≡ s.seen
     → c < s.geometry.channels → i ≡ index_of s.geometry f c

@@ -4,7 +4,7 @@ use Rattle.snoop_table.specs.Prelude.{mul-le-mul_left, cases_lt, nat_tests, Allo
 use Rattle.snoop_table.specs.Prelude.{mod-suc_low, suc-le-end_frame, cursor_after, end_frame, first_frame, IsWithin, lap, slot, word_of, next_after_stored-more}
 use Rattle.snoop_table.specs.Prelude.{HoldsSample, HoldsSample-fields, sample_of, has_all-published, last_number-more, Desk, Track, View, Holds, next_to_store}
 use Rattle.snoop_table.specs.Prelude.{position_of, the_track, IsWritePlace, IsWriter, position_store, sample_store, track_published, track_stored, unplug_store}
-use Rattle.snoop_table.specs.Prelude.{with_gone, with_published, with_stored, desk_track, desk_view, HasPublished, HasStoredSample, HasUnplugged}
+use Rattle.snoop_table.specs.Prelude.{with_published, with_stored, desk_view, HasPublished, HasStoredSample, HasUnplugged}
 use Rattle.snoop_table.specs.declared.seats.place.WritePlace.{WritePlace}
 use Rattle.snoop_table.proofs.Keeps.{publishes, stores, unplugs}
 
@@ -105,41 +105,21 @@ known_published g next position gone slots word n m r is told =
 -- after the card was unplugged
 pub known_unplugged : (g : Geometry) (next : Cursor) (position : ℕ) (gone : Bool) (slots word n : ℕ) (m r : Me (Unit {0}) View)
     → IsWriter m.0 g next position gone → unplug_store (step slots 0 word 0 none) m n r → IsWriter r.0 g next position true
-known_unplugged g next position gone slots word n m r is told =
-    let own = known_track m.0 told.0 g next position gone told.1 is in
-    let known : IsWriter (with_gone m.0 told.0) g next position true = assumption in
-    rw told.2 known
+known_unplugged g next position gone slots word n m r is told = grind (arith, nat_tests)
 
 -- the writer's seat after it stored a sample
 pub has_stored : (d e : Desk) (slots i word n : ℕ) (x : ℤ) → e.seat.table_id ≡ d.seat.table_id → e.geometry ≡ d.geometry
     → e.place.next ≡ cursor_after d.geometry d.place.next.frame d.place.next.channel → e.position ≡ d.position → e.gone ≡ d.gone
     → HoldsSample word (lap d.geometry d.place.next.frame + 1) x
     → sample_store (step slots i word 0 none) d.seat.me n e.seat.me → HasStoredSample d e x
-has_stored d e slots i word n x ring geometry next position gone holds told =
-    let v : View = desk_view d in
-    let same : told.0 ≡ desk_track d = sym (track_is v told.0 told.1) in
-    let view : desk_view e ≡ with_stored v (desk_track d) x =
-    ap (λ (y : Me (Unit {0}) View). y.0) told.2 ∙ (ap (λ (u : Track). with_stored v u (sample_of word)) same ∙ ap (with_stored v (desk_track d)) (HoldsSample-fields _ _ _ holds).1) in
-    assumption
+has_stored d e slots i word n x ring geometry next position gone holds told = grind (arith, nat_tests)
 
 pub has_published : (d e : Desk) (slots word n : ℕ) → e.seat.table_id ≡ d.seat.table_id → e.geometry ≡ d.geometry
     → e.place.next ≡ d.place.next → e.position ≡ d.place.next.frame → e.gone ≡ d.gone
     → position_store (step slots 0 word 0 none) d.seat.me n e.seat.me → HasPublished d e
-has_published d e slots word n ring geometry next position gone told =
-    let v : View = desk_view d in
-    let same : told.0 ≡ desk_track d = sym (track_is v told.0 told.1) in
-    let frame : (next_to_store v.geometry told.0).frame ≡ d.place.next.frame =
-    ap (λ (g : Geometry). (next_to_store g told.0).frame) d.known.same_geometry ∙ (ap (λ (u : Track). (next_to_store d.geometry u).frame) same ∙ sym (ap (λ (y : Cursor). y.frame) d.known.next_is)) in
-    let view : desk_view e ≡ with_published v (desk_track d) d.place.next.frame =
-    ap (λ (y : Me (Unit {0}) View). y.0) told.2 ∙ (ap (with_published v told.0) frame ∙ ap (λ (u : Track). with_published v u d.place.next.frame) same) in
-    let track = ap (λ (y : View). the_track y.track) view in
-    assumption
+has_published d e slots word n ring geometry next position gone told = grind (arith, nat_tests)
 
 pub has_unplugged : (d e : Desk) (slots word n : ℕ) → e.seat.table_id ≡ d.seat.table_id → e.geometry ≡ d.geometry
     → e.place.next ≡ d.place.next → e.position ≡ d.position → e.gone ≡ true
     → unplug_store (step slots 0 word 0 none) d.seat.me n e.seat.me → HasUnplugged d e
-has_unplugged d e slots word n ring geometry next position gone told =
-    let view : desk_view e ≡ with_gone (desk_view d) (desk_track d) =
-    ap (λ (y : Me (Unit {0}) View). y.0) told.2 ∙ ap (with_gone (desk_view d)) (sym (track_is (desk_view d) told.0 told.1)) in
-    let track = ap (λ (y : View). the_track y.track) view in
-    assumption
+has_unplugged d e slots word n ring geometry next position gone told = grind (arith, nat_tests)

@@ -1,19 +1,18 @@
 -- Splits and joins keep the rule, and what they make of the fields of the seats.
-use Rattle.sum_table.specs.Prelude.{ap, arith, Bool, false, get_or, inl, inr, length, List, map, max, None, Option, pos, refl, set, Some, subst, suc, sym, true}
-use Rattle.sum_table.specs.Prelude.{zero, ℕ, ℤ, [], ◌*◌, ◌++◌, ◌+◌, ◌-◌, ◌||◌, ◌∙◌, ◌∷◌, ◌≡◌, ◌≤◌, ◌⊎◌, false≢true, or_right, nat_tests, ints, append-nil}
-use Rattle.sum_table.specs.Prelude.{length-append, length-set, at_set, Allows, Joins, keeps, Me, Splits, step, get_elem?, none, some, some-ne-none, Geometry}
-use Rattle.sum_table.specs.Prelude.{Cursor, first_frame, IsWithin, lap, lap_of, StandsFor-fields, Marks, Entry, AreExact, AreInOrder, IsLegal, laid_of, Row}
-use Rattle.sum_table.specs.Prelude.{total-append, at, sum_of_samples, total, first_frame-le, later_of, start_marks, IsNow, at_append, at_second}
-use Rattle.sum_table.specs.Prelude.{later_notes-keeps, later_notes-length, later_notes-one, no_note, has_all-more, has_each, index_of, NotPast, rank, MixSeat}
-use Rattle.sum_table.specs.Prelude.{PlayerSeat, Track, View, both_of, either_track, joined_marks, part_of, spent_view, with_places, without_places, BeginsWith}
-use Rattle.sum_table.specs.Prelude.{Exact, is_tracked, IsKept, IsLaid, IsPublishedPosition, IsView, next_at, position_at, the_track, greater, IsKnown, IsNoted}
-use Rattle.sum_table.specs.Prelude.{IsPlayer, last_frame, all_laid, by_member, count, SameSums, total_places, player_view, track_of, view_of, IsStep, Knows}
-use Rattle.sum_table.specs.Prelude.{Makes, quiet_load, with_history}
+use Rattle.sum_table.specs.Prelude.{ap, arith, Bool, false, get_or, inl, inr, length, List, map, max, None, Option, pos, refl, set, Some, subst, sym, true, ℕ}
+use Rattle.sum_table.specs.Prelude.{ℤ, [], ◌*◌, ◌++◌, ◌+◌, ◌-◌, ◌||◌, ◌∙◌, ◌∷◌, ◌≡◌, ◌≤◌, ◌⊎◌, false≢true, or_right, nat_tests, ints, append-nil, length-append}
+use Rattle.sum_table.specs.Prelude.{length-set, at_set, Allows, Joins, keeps, Me, Splits, step, get_elem?, none, some, some-ne-none, Geometry, Cursor, IsWithin}
+use Rattle.sum_table.specs.Prelude.{lap, lap_of, StandsFor-fields, Marks, Entry, AreExact, AreInOrder, IsLegal, laid_of, Row, total-append, at, sum_of_samples}
+use Rattle.sum_table.specs.Prelude.{total, start_marks, IsNow, at_append, at_second, later_notes-keeps, later_notes-length, later_notes-one, no_note}
+use Rattle.sum_table.specs.Prelude.{has_all-more, has_each, index_of, NotPast, rank, MixSeat, PlayerSeat, Track, View, both_of, either_track, joined_marks}
+use Rattle.sum_table.specs.Prelude.{part_of, spent_view, with_places, without_places, BeginsWith, Exact, is_tracked, IsKept, IsLaid, IsPublishedPosition}
+use Rattle.sum_table.specs.Prelude.{IsView, next_at, position_at, the_track, greater, IsKnown, IsNoted, IsPlayer, last_frame, all_laid, by_member, count}
+use Rattle.sum_table.specs.Prelude.{SameSums, total_places, player_view, track_of, view_of, IsStep, Knows, Makes, quiet_load, with_history}
 use Rattle.ring_rule.specs.SeatLaws.{HasTrack-join, HasTrack-split, each-join, each-split, or_true, join_views, split_views}
 use Rattle.sum_table.specs.declared.seats.note.SeatNote.{SeatNote}
 use Rattle.sum_table.specs.declared.view.Key.{Key}
 use Rattle.sum_table.specs.Joins.{HasClosed, HasHeard, HasJoined, HasMet, HasPlayerNote, note_view}
-use Rattle.sum_table.proofs.Highs.{IsReach-joined, IsReach-start, greater_none}
+use Rattle.sum_table.proofs.Highs.{IsReach-joined, greater_none}
 use Rattle.sum_table.proofs.Keeps.{Holds, idle, loaded, none_made, tracked_some}
 use Rattle.sum_table.proofs.Kept.{kept_join, kept_none, kept_places, IsLaid-later}
 use Rattle.sum_table.proofs.Rings.{IsRing-same}
@@ -133,42 +132,25 @@ total_none es f c silent = ap sum_of_samples (empty (at es f c) silent) where
   empty [] is = refl
   empty (x ∷ xs) is = absurd (omega arith)
 
-all_none : (views : List View) (f c : ℕ) → ((i : ℕ) (u : View) → get_elem? views i ≡ some u → count u.laid f c ≤ 3 * u.places) → total_places views ≡ 0
-    → (count (all_laid views) f c ≡ 0) × (total (all_laid views) f c ≡ pos 0)
-all_none views f c few no_places =
-    let count_is : count (all_laid views) f c ≡ 0 = omega (arith, count_few views f c few) in
-    (count_is, total_none (all_laid views) f c count_is)
-
--- a view with all places placed everything
-alone : (views : List View) (id : ℕ) (v : View) (f c : ℕ) → get_elem? views id ≡ some v
-    → ((i : ℕ) (u : View) → get_elem? views i ≡ some u → count u.laid f c ≤ 3 * u.places) → total_places views ≡ v.places
-    → (count (all_laid views) f c ≡ count v.laid f c) × (total (all_laid views) f c ≡ total v.laid f c)
-alone [] id v f c here few all = absurd (some-ne-none v (sym here))
-alone (x ∷ xs) zero v f c here few all =
-    let same : x ≡ v = mathlib.Core.Option.some-injective x v here in
-    let rest = all_none xs f c (λ i u there. few (suc i) u there) (omega (arith, all, ap (λ (y : View). y.places) same)) in
-    rw same (omega (arith, count-append v.laid (all_laid xs) f c, rest.0), omega (arith, ints, total-append v.laid (all_laid xs) f c, rest.1))
-alone (x ∷ xs) (suc id) v f c here few all =
-    let inside : v.places ≤ total_places xs = places_within xs id v here in
-    let rest = alone xs id v f c here (λ i u there. few (suc i) u there) (omega (arith, all, inside)) in
-    let none : count x.laid f c ≡ 0 = omega (arith, few 0 x refl, all, inside) in (
-      omega (arith, count-append x.laid (all_laid xs) f c, rest.0, none),
-      omega (arith, ints, total-append x.laid (all_laid xs) f c, rest.1, total_none x.laid f c none),
-    )
-
+-- a view with all places placed everything: without it all others have no place
 alone_sums : (views : List View) (id : ℕ) (v : View) → get_elem? views id ≡ some v
     → ((f c : ℕ) (i : ℕ) (u : View) → get_elem? views i ≡ some u → count u.laid f c ≤ 3 * u.places) → total_places views ≡ v.places
     → SameSums (all_laid views) v.laid
-alone_sums views id v here few all = record {
-  counts = λ f c. (alone views id v f c here (few f c) all).0;
-  totals = λ f c. (alone views id v f c here (few f c) all).1;
-}
+alone_sums views id v here few all =
+    let rest : List View = set views id spent_view in
+    let none : (f c : ℕ) → count (all_laid rest) f c ≡ 0 = λ f c.
+    let few_rest : (i : ℕ) (u : View) → get_elem? rest i ≡ some u → count u.laid f c ≤ 3 * u.places = λ i u there. elim (at_set views id i spent_view u there) [
+      | inl this ↦ subst (λ (x : View). count x.laid f c ≤ 3 * x.places) this.1 (omega arith)
+      | inr other ↦ few f c i u other.1
+    ] in
+    omega (arith, count_few rest f c few_rest, places_set views id v spent_view here, all) in
+    record {
+      counts = λ f c. omega (arith, none f c, count_set views id v spent_view f c here);
+      totals = λ f c. omega (arith, ints, total_none (all_laid rest) f c (none f c), total_set views id v spent_view f c here);
+    }
 
 not_past-lap : (n w : ℕ) → NotPast n w → lap_of n ≤ lap_of w
-not_past-lap n w past = elim past [
-  | inl same ↦ subst (λ x. lap_of n ≤ lap_of x) same (omega arith)
-  | inr below ↦ grind (arith, below)
-]
+not_past-lap n w past = grind (arith, nat_tests)
 
 -- what the rule says of a view with the player's part
 knows : (words : List ℕ) (views : List View) (at : ℕ) (t u : Track) (h : List Row) (id : ℕ) (v : View)
@@ -232,37 +214,18 @@ learns_both k slots id v w kept m both same lasts =
     subst (λ (x : Key). Allows (Exact x) slots id m 0 (λ n. n) (quiet_load (step slots 0 0 0 none) m)) (ap (λ (y : Me Entry View). y.0.key) both ∙ same)
     (learns slots id m (ap (λ (y : Me Entry View). y.0.ended) both ∙ lasts))
 
--- places that a seat has, and that placed nothing, can move
-pub may_cut : (s : MixSeat) (amount n : ℕ) → amount ≡ n → n ≤ s.places → (view_of s).laid ≡ []
-    → Splits (Exact s.ring.now.key) s.seat.id (view_of s) (without_places (view_of s) amount) (part_of (view_of s) amount)
-may_cut s amount n is has nothing =
-    let v : View = view_of s in
-    splits s.ring.now.key s.seat.id v (v.places - amount) amount (s.known.same_key ∙ s.same_ring.1) (omega (arith, is, has, s.known.same_places)) (inl nothing)
-
 -- a note can always be given
 pub may_note : (k : Key) (id : ℕ) (v : View) → v.key ≡ k → Splits (Exact k) id v v (part_of v 0)
 may_note k id v same = splits k id v v.places 0 same (omega arith) (inr refl)
 
-pub start_within : (g : Geometry) → IsWithin g (first_frame g)
-start_within g = record { least = omega arith; most = first_frame-le g }
-
 -- the fields of the two seats after a split
 pub known_without : (k : Key) (places : ℕ) (marks : Marks) (seen : ℕ) (last : Option ℕ) (v : View) (amount n : ℕ)
     → IsKnown v k places marks seen last → amount ≡ n → n ≤ places → v.laid ≡ [] → IsKnown (without_places v amount) k (places - n) marks seen last
-known_without k places marks seen last v amount n is same has nothing =
-    let places_left : v.places - amount ≡ places - n = omega (arith, is.same_places, same) in
-    let most : places - n ≤ k.places = omega (arith, is.places_most) in
-    let none_placed : places - n ≡ 0 → last ≡ None = λ none_left. sym is.same_last ∙ ap last_frame nothing in
-    assumption
+known_without k places marks seen last v amount n is same has nothing = grind (arith, nat_tests)
 
 pub known_part : (k : Key) (v : View) (amount n seen : ℕ) → v.key ≡ k → v.seen ≡ seen → IsNoted v k → IsWithin k.geometry seen → amount ≡ n → n ≤ k.places
     → IsKnown (part_of v amount) k n (start_marks k.geometry) seen None
-known_part k v amount n seen same_key same_seen noted seen_within same most =
-    let marks : start_marks v.key.geometry ≡ start_marks k.geometry = ap (λ (x : Key). start_marks x.geometry) same_key in
-    let reach = IsReach-start k.geometry n in
-    let start = start_within k.geometry in
-    let laid : (i : ℕ) (e : Entry) → get_elem? (part_of v amount).laid i ≡ some e → IsLaid k.geometry v.seen e = λ i e there. absurd (some-ne-none e (sym there)) in
-    assumption
+known_part k v amount n seen same_key same_seen noted seen_within same most = grind (arith, nat_tests)
 
 -- what two views noted is noted in both
 IsNoted-both : (k : Key) (v w : View) → IsNoted v k → IsNoted w k → IsNoted (both_of v w) k
@@ -271,15 +234,9 @@ IsNoted-both k v w a b = record {
   words = λ i n there. elim (later_notes-one v.noted w.noted i n there) [ inl first ↦ a.words i n first | inr second ↦ b.words i n second ];
 }
 
-later_within : (g : Geometry) (a b : Cursor) → IsWithin g a.frame → IsWithin g b.frame → IsWithin g (later_of a b).frame
-later_within g a b first second = record { least = grind (arith, nat_tests, first.least, second.least); most = grind (arith, nat_tests, first.most, second.most) }
-
 -- the marks after a join
 joined_within : (g : Geometry) (a b : Marks) (n : ℕ) → MarksWithin g a → MarksWithin g b → MarksWithin g (joined_marks a b n)
-joined_within g a b zero first second = first
-joined_within g a b (suc n) first second =
-    let high : IsWithin g (later_of a.high b.high).frame = later_within g a.high b.high first.high second.high in
-    record { cursor = high; floor = high; high = high }
+joined_within g a b n first second = grind (arith, nat_tests)
 
 -- the fields after a join
 pub known_joined : (k : Key) (p q : ℕ) (a b : Marks) (s t : ℕ) (l m : Option ℕ) (v w : View) (slots n : ℕ) (x r : Me Entry View)
@@ -408,12 +365,8 @@ has_closed s p slots found x r all one both told =
     }
 
 -- a view that is known, in a seat
-pub known_as : (k : Key) (places : ℕ) (marks : Marks) (seen : ℕ) (last : Option ℕ) (v : Me Entry View) (m : Me Entry View) → m ≡ v → IsKnown v.0 k places marks seen last → IsKnown m.0 k places marks seen last
+pub known_as : (k : Key) (places : ℕ) (marks : Marks) (seen : ℕ) (last : Option ℕ) (v m : Me Entry View) → m ≡ v → IsKnown v.0 k places marks seen last → IsKnown m.0 k places marks seen last
 known_as k places marks seen last v m same is = subst (λ (x : Me Entry View). IsKnown x.0 k places marks seen last) (sym same) is
-
--- a load that notes nothing takes no slot
-pub learned_kept : (slots n : ℕ) (m r : Me Entry View) → quiet_load (step slots 0 0 0 none) m n r → r.1 ≡ m.1
-learned_kept slots n m r told = ap (λ (x : Me Entry View). x.1) told.1
 
 -- the player's note
 pub has_player_note : (p q : PlayerSeat) (n : SeatNote) → q.seat.table_id ≡ p.seat.table_id → q.key ≡ p.key → player_view q ≡ player_view p

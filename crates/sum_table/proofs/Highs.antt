@@ -2,8 +2,7 @@
 use Rattle.sum_table.specs.Prelude.{ap, arith, Bool, false, if◌then◌else◌, is_some, List, max, None, Option, refl, Some, subst, suc, sym, true, zero, ℕ, []}
 use Rattle.sum_table.specs.Prelude.{◌+◌, ◌<◌, ◌∙◌, ◌∷◌, ◌≡◌, ◌≤◌, false≢true, nat_tests, get_elem?, some, some-injective, some-ne-none, Geometry, Cursor}
 use Rattle.sum_table.specs.Prelude.{cursor_after, first_frame, first_free, IsFrom, Marks, Entry, added_at, high_frame, is_before, last_before, later_of}
-use Rattle.sum_table.specs.Prelude.{start_marks, start_of, withdrawn_at, joined_marks, free_from, greater, IsReach, last_frame}
-use Rattle.std.proofs.lemmas.Option.{none-some, same_Some}
+use Rattle.sum_table.specs.Prelude.{start_of, withdrawn_at, joined_marks, free_from, greater, IsReach, last_frame}
 
 -- the last frame before a cursor, where that is past a start
 abbrev frame_before : Cursor → Cursor → Option ℕ
@@ -37,9 +36,6 @@ later-frame start a b = by_tests (is_before a b) refl (is_before start a) refl (
     by_tests false ab false sa true sb = absurd (false≢true (sym sa ∙ first-past start a b ab sb))
     by_tests false ab false sa false sb = ap (λ past. frame_if past a) sa
 
-high_frame-start : (g : Geometry) → high_frame g (start_marks g) ≡ None
-high_frame-start g = grind (arith, nat_tests)
-
 -- an add raises the high to right after it, where it isn't past that
 high_frame-added : (g : Geometry) (m : Marks) (f c : ℕ) → c < g.channels → first_frame g ≤ f
     → high_frame g (added_at g m f c) ≡ greater (high_frame g m) (Some f)
@@ -48,13 +44,6 @@ high_frame-added g m f c channel low = grind (arith, nat_tests)
 pub greater_none : (o : Option ℕ) → greater o None ≡ o
 greater_none None = refl
 greater_none (Some n) = refl
-
--- the high of two seats is the later one; a second seat without a place placed nothing
-high_frame-joined : (g : Geometry) (a b : Marks) (n : ℕ) (l m : Option ℕ) → high_frame g a ≡ l → high_frame g b ≡ m → (n ≡ 0 → m ≡ None)
-    → high_frame g (joined_marks a b n) ≡ greater l m
-high_frame-joined g a b zero l m first second none = first ∙ (sym (greater_none l) ∙ ap (greater l) (sym (none refl)))
-high_frame-joined g a b (suc n) l m first second none =
-    later-frame (start_of g) a.high b.high ∙ (ap (λ o. greater o (high_frame g b)) first ∙ ap (greater l) second)
 
 -- a frame that is among some doesn't change the greatest of them, and neither of more
 greater-own : (o : Option ℕ) (x y : ℕ) → x ≡ y → greater (greater (Some x) o) (Some y) ≡ greater (Some x) o
@@ -87,10 +76,6 @@ high-free g at = grind (arith, nat_tests)
 high_free : (g : Geometry) (m : Marks) (last : Option ℕ) → high_frame g m ≡ last → IsFrom m.high (free_from g last) 0
 high_free g m last is = subst (λ o. IsFrom m.high (free_from g o) 0) is (high-free g m.high)
 
--- the greatest frame before anything was placed
-pub IsReach-start : (g : Geometry) (places : ℕ) → IsReach g (start_marks g) places None
-IsReach-start g places = record { high = high_frame-start g; cursor = grind (arith, nat_tests); floor = grind (arith, nat_tests); none = λ none_left. refl }
-
 -- and after an add
 pub IsReach-added : (g : Geometry) (m : Marks) (places : ℕ) (last : Option ℕ) (f c : ℕ) → IsReach g m places last → 0 < places → c < g.channels → first_frame g ≤ f
     → IsReach g (added_at g m f c) places (greater last (Some f))
@@ -121,39 +106,16 @@ IsReach-added g m places last f c is placed channel low =
 -- and after a withdrawal in a frame that was placed in before
 pub IsReach-withdrawn : (g : Geometry) (m : Marks) (places : ℕ) (last : Option ℕ) (f c : ℕ) → IsReach g m places last → greater last (Some f) ≡ last
     → IsReach g (withdrawn_at m f c) places (greater last (Some f))
-IsReach-withdrawn g m places last f c is had = record {
-  high = is.high ∙ sym had;
-  cursor = subst (λ o. IsFrom (record { frame = f; channel = c }) (free_from g o) 0) (sym had) (below last had);
-  floor = subst (λ o. IsFrom m.floor (free_from g o) 0) (sym had) is.floor;
-  none = λ none_left. had ∙ is.none none_left;
-}
-  where
-    by_frame : {l : ℕ} → max l f ≡ l → IsFrom (record { frame = f; channel = c }) (l + 1) 0
-    by_frame is = grind (arith, nat_tests, is)
-
-    below : (o : Option ℕ) → greater o (Some f) ≡ o → IsFrom (record { frame = f; channel = c }) (free_from g o) 0
-    below None has = absurd (none-some f (sym has))
-    below (Some l) has = by_frame (same_Some (max l f) l has)
+IsReach-withdrawn g m places last f c is had = grind (arith, nat_tests)
 
 -- and after a join
 pub IsReach-joined : (g : Geometry) (a b : Marks) (p q : ℕ) (l m : Option ℕ) → IsReach g a p l → IsReach g b q m
     → IsReach g (joined_marks a b q) (p + q) (greater l m)
-IsReach-joined g a b p q l m first second =
-    let high : high_frame g (joined_marks a b q) ≡ greater l m = high_frame-joined g a b q l m first.high second.high second.none in
-    record {
-      high = high;
-      cursor = cursor_by q high second.none;
-      floor = floor_by q high second.none;
-      none = λ none_left. ap (λ o. greater o m) (first.none (omega (arith, none_left))) ∙ second.none (omega (arith, none_left));
-    }
-  where
-    alone : (m ≡ None) → greater l m ≡ l
-    alone none = ap (greater l) none ∙ greater_none l
-
-    cursor_by : (n : ℕ) → high_frame g (joined_marks a b n) ≡ greater l m → (n ≡ 0 → m ≡ None) → IsFrom (joined_marks a b n).cursor (free_from g (greater l m)) 0
-    cursor_by zero high none = subst (λ o. IsFrom a.cursor (free_from g o) 0) (sym (alone (none refl))) first.cursor
-    cursor_by (suc n) high none = high_free g (joined_marks a b (suc n)) (greater l m) high
-
-    floor_by : (n : ℕ) → high_frame g (joined_marks a b n) ≡ greater l m → (n ≡ 0 → m ≡ None) → IsFrom (joined_marks a b n).floor (free_from g (greater l m)) 0
-    floor_by zero high none = subst (λ o. IsFrom a.floor (free_from g o) 0) (sym (alone (none refl))) first.floor
-    floor_by (suc n) high none = high_free g (joined_marks a b (suc n)) (greater l m) high
+IsReach-joined g a b p zero l m first second =
+    let same : l ≡ greater l m = sym (ap (greater l) (second.none refl) ∙ greater_none l) in
+    subst (λ n. IsReach g a n (greater l m)) (omega arith) (subst (IsReach g a p) same first)
+IsReach-joined g a b p (suc q) l m first second =
+    let later : high_frame g (joined_marks a b (suc q)) ≡ greater l m =
+    later-frame (start_of g) a.high b.high ∙ (ap (λ o. greater o (high_frame g b)) first.high ∙ ap (greater l) second.high) in
+    let free = high_free g (joined_marks a b (suc q)) (greater l m) later in
+    record { high = later; cursor = free; floor = free; none = λ none_left. absurd (omega arith) }

@@ -1,21 +1,21 @@
 -- Steps keep the rule, and what they show holds: the loads and the exchange of a mix seat, and what the player does.
-use Rattle.sum_table.specs.Prelude.{ap, arith, Bool, false, get_or, inl, inr, length, List, nat_lt, negsuc, None, Option, pos, refl, set, Some, subst, sym}
-use Rattle.sum_table.specs.Prelude.{true, ℕ, ℤ, [], ◌%◌, ◌++◌, ◌+ℤ◌, ◌+◌, ◌<◌, ◌==◌, ◌∙◌, ◌∷◌, ◌≡◌, ◌≤ℤ◌, ◌≤◌, cases_lt, false≢true, nat_tests, append-nil}
-use Rattle.sum_table.specs.Prelude.{at_snoc, exchanged as by_exchange, Act, Allows, carried_after, keeps, Me, State, step, stepped, Valid, get_elem?, none}
-use Rattle.sum_table.specs.Prelude.{some, either, Geometry, Cursor, div-lt_same, cursor_after, first_frame, first_free, IsFrom, lap, clamp_of, word_of}
-use Rattle.sum_table.specs.Prelude.{count_of, lap_of, StandsFor, StandsFor-fields, sum_of, Add, Publish, Take, Withdraw, Late, Published, Took, Taken, Marks}
-use Rattle.sum_table.specs.Prelude.{Entry, Kind, Added, Withdrawn, is_taken, IsReply, laid_of, next_to_take, Row, taken_words, cursor_of, marks_after, total}
-use Rattle.sum_table.specs.Prelude.{value_of, cursor_of-least, lap-taken, IsNow, IsNow-next, now_of, noted_set, IsPosition-last, IsPosition-more}
-use Rattle.sum_table.specs.Prelude.{last_number-more, index_of-lt, NotPast-position, NotPast-set, set_read, index_of, NotPast, rank, Track, View, AreViews}
-use Rattle.sum_table.specs.Prelude.{BeginsWith, Exact, is_tracked, IsHistory, IsKept, IsLaid, IsOwn, IsPublishedPosition, IsRing, IsView, next_at, position_at}
-use Rattle.sum_table.specs.Prelude.{the_track, all_laid, count, Finds, HoldsLast, in_row, IsLateAt, IsLateHeld, IsStep, IsSumOf, MakesLook, next_taken}
-use Rattle.sum_table.specs.Prelude.{position_load, position_store, track_gone, track_published, track_taken, unplug_store, with_entry, with_gone, with_note}
-use Rattle.sum_table.specs.Prelude.{with_position, with_published, with_taken, withdrawable_after, word_exchange, word_load, word_take}
+use Rattle.sum_table.specs.Prelude.{ap, arith, Bool, false, get_or, inl, inr, length, List, negsuc, None, Option, pos, refl, set, Some, subst, sym, true, ℕ, ℤ}
+use Rattle.sum_table.specs.Prelude.{[], ◌%◌, ◌++◌, ◌+ℤ◌, ◌+◌, ◌<◌, ◌==◌, ◌∙◌, ◌∷◌, ◌≡◌, ◌≤ℤ◌, ◌≤◌, cases_lt, false≢true, nat_tests, append-nil, at_snoc}
+use Rattle.sum_table.specs.Prelude.{exchanged as by_exchange, Act, Allows, carried_after, keeps, Me, State, step, stepped, Valid, get_elem?, none, some, either}
+use Rattle.sum_table.specs.Prelude.{Geometry, Cursor, div-lt_same, cursor_after, first_frame, first_free, IsFrom, lap, clamp_of, word_of, count_of, lap_of}
+use Rattle.sum_table.specs.Prelude.{StandsFor, StandsFor-fields, sum_of, Add, Publish, Take, Withdraw, Late, Published, Took, Taken, Marks, Entry, Kind, Added}
+use Rattle.sum_table.specs.Prelude.{Withdrawn, is_taken, IsReply, laid_of, next_to_take, Row, taken_words, cursor_of, marks_after, total, value_of}
+use Rattle.sum_table.specs.Prelude.{cursor_of-least, lap-taken, IsNow, IsNow-next, now_of, noted_set, IsPosition-last, IsPosition-more, last_number-more}
+use Rattle.sum_table.specs.Prelude.{index_of-lt, NotPast-position, NotPast-set, set_read, index_of, NotPast, rank, Track, View, AreViews, BeginsWith, Exact}
+use Rattle.sum_table.specs.Prelude.{is_tracked, IsHistory, IsKept, IsLaid, IsOwn, IsPublishedPosition, IsRing, IsView, next_at, position_at, the_track}
+use Rattle.sum_table.specs.Prelude.{all_laid, count, Finds, HoldsLast, in_row, IsLateAt, IsLateHeld, IsStep, IsSumOf, MakesLook, next_taken, position_load}
+use Rattle.sum_table.specs.Prelude.{position_store, track_gone, track_published, track_taken, unplug_store, with_entry, with_gone, with_note, with_position}
+use Rattle.sum_table.specs.Prelude.{with_published, with_taken, withdrawable_after, word_exchange, word_load, word_take}
 use Rattle.sum_table.specs.declared.view.Key.{Key}
 use Rattle.sum_table.proofs.Kept.{HeldFacts, IsHeldAt, held_facts, held_of, kept_add, kept_later, kept_withdraw}
 use Rattle.sum_table.proofs.Places.{index_places, next_word-channel}
-use Rattle.sum_table.proofs.Rings.{IsRing-put, IsRing-same, not_taken, IsRing-gone, IsRing-publish, IsRing-take, next_at-taken}
-use Rattle.sum_table.proofs.Rows.{BeginsWith-more, BeginsWith-same, history_put, history_same, inside, is_held, own_marks, step_of, history_gone, history_publish, history_take}
+use Rattle.sum_table.proofs.Rings.{IsRing-put, IsRing-same, not_taken, IsRing-stored, IsRing-publish, IsRing-take, next_at-taken}
+use Rattle.sum_table.proofs.Rows.{BeginsWith-more, BeginsWith-same, history_put, history_same, inside, is_held, own_marks, step_of, history_publish, history_take}
 use Rattle.sum_table.proofs.Sums.{SameSums-put, SameSums-set}
 use Rattle.sum_table.proofs.Views.{ByLap, Later, Later-same, by_lap, finds, rank-of, view_later, views_set, none_far}
 
@@ -113,12 +113,7 @@ least_placed g views t h id v f c y here lasts o from =
 late_taken : (words : List ℕ) (views : List View) (at : ℕ) (t : Track) (h : List Row) (v : View) (i f c : ℕ) → Holds v.key words views at t h → v.seen ≤ position_at v.key.geometry t
     → c < v.key.geometry.channels → f < v.seen + v.key.geometry.frames → index_of v.key.geometry f c ≡ i → lap v.key.geometry f < lap_of (get_or words i 0)
     → (f < first_free (next_at v.key.geometry t) c) × (first_frame v.key.geometry ≤ f → is_taken (taken_words h) f c ≡ true)
-late_taken words views at t h v i f c x high in_range near index past =
-    let g : Geometry = v.key.geometry in
-    let laps : ByLap g (next_at g t) (get_or words (index_of g f c) 0) f c = by_lap g words (all_laid views) t f c x.ring in_range (omega (arith, near, high)) in
-    let before : f < first_free (next_at g t) c = laps.taken (rw index past) in
-    let test : nat_lt f (first_free (next_at g t) c) ≡ true = grind (arith, nat_tests, before) in
-    (before, λ least. ap (λ ts. is_taken ts f c) x.history.taken ∙ (x.ring.took f c in_range least ∙ test))
+late_taken words views at t h v i f c x high in_range near index past = grind (arith, nat_tests)
 
 -- a word of a later lap is an add that was late
 pub late_reply : (words : List ℕ) (views : List View) (at : ℕ) (t : Track) (h : List Row) (id : ℕ) (v : View) (i f c : ℕ) (sample : ℤ)
@@ -513,10 +508,12 @@ unplugs slots id m position lasts is position_is s x homes here small =
     } in
     let moved : IsView k words u h v = view_later k s.words words t u h h v later own in
     let after : IsView k words u h w = assumption (BeginsWith-same h) in
-    let ring = IsRing-gone g s.words (all_laid s.views) t x.3 in
+    let ring = IsRing-stored g s.words (all_laid s.views) t t.published true x.3 x.3.rising x.3.not_ahead in
     let views = views_set k s.words words s.views x.0 t u h h id v w x.4 later here refl after
     (λ y one. (mine.0, sym (ap (λ (o : Option Track). track_or u o) one))) (inr mine.0) in
-    let seated : IsHistory g (set s.views id w) u h = history_same g s.views u h id v w (history_gone g s.views t h x.5) here refl refl refl in (
+    let was : IsHistory g s.views t h = x.5 in
+    let gone : IsHistory g s.views u h = assumption in
+    let seated : IsHistory g (set s.views id w) u h = history_same g s.views u h id v w gone here refl refl refl in (
       w,
       keeps,
       tt,

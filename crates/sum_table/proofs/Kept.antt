@@ -45,11 +45,7 @@ kept_none g places marks seen ended floor cursor start = record {
 -- nothing was placed, and there are other places
 pub kept_places : (g : Geometry) (p n : ℕ) (es mine free : List Entry) (marks : Marks) (seen : ℕ) (ended : Bool) → (es ≡ []) ⊎ (n ≡ p)
     → IsKept g p es mine free marks seen ended → IsKept g n es mine free marks seen ended
-kept_places g p n es mine free marks seen ended (inr same) x = subst (λ m. IsKept g m es mine free marks seen ended) (sym same) x
-kept_places g p n es mine free marks seen ended (inl none) x =
-    let few : (f c : ℕ) → count es f c ≤ 3 * n = λ f c. subst (λ zs. count zs f c ≤ 3 * n) (sym none) (omega arith) in
-    let few_held : (f c : ℕ) → count (standing es) f c ≤ n = λ f c. subst (λ zs. count (standing zs) f c ≤ n) (sym none) (omega arith) in
-    assumption
+kept_places g p n es mine free marks seen ended is x = grind (arith, nat_tests)
 
 -- what is known of the last standing add
 pub record IsHeldAt (es : List Entry) (marks : Marks) (f c : ℕ) (s : ℤ) : Type 0 where
@@ -111,9 +107,7 @@ held_place g places es mine free marks seen ended f c s x y =
 
 -- where a place is from a cursor on, the cursor is before what is after the place
 later_of-behind : (g : Geometry) (at : Cursor) (f c : ℕ) → c < g.channels → IsFrom at f c → later_of at (cursor_after g f c) ≡ cursor_after g f c
-later_of-behind g at f c c_in from =
-    let test : is_before at (cursor_after g f c) ≡ true = grind (arith, nat_tests) in
-    rw test refl
+later_of-behind g at f c c_in from = grind (arith, nat_tests)
 
 -- a seat's own marks stay within its marks
 pub within_add : (g : Geometry) (a b : Marks) (f c : ℕ) → AreWithinMarks a b → c < g.channels → IsFrom b.cursor f c → AreWithinMarks (added_at g a f c) (added_at g b f c)
@@ -143,12 +137,7 @@ within_add g a b f c x c_in from = elim x.tops [
 ]
 
 pub within_withdraw : (a b : Marks) (f c : ℕ) → AreWithinMarks a b → IsFrom b.floor f c → f < first_free b.cursor c → AreWithinMarks (withdrawn_at a f c) (withdrawn_at b f c)
-within_withdraw a b f c x from near = elim x.tops [
-  | inl same ↦ record { floor = x.floor; cursor = λ d. omega arith; tops = inl (record { cursor = refl; high = same.high }) }
-  | inr level ↦
-      let one : b.floor ≡ b.cursor = level.floor_is ∙ sym level.cursor_is in
-      absurd (omega (arith, near, subst (λ (y : Cursor). IsFrom y f c) one from))
-]
+within_withdraw a b f c x from near = grind (arith, nat_tests)
 
 within_join : (a b w : Marks) (n : ℕ) → AreWithinMarks a b → ((c : ℕ) → first_free b.floor c ≤ first_free b.high c) → ((c : ℕ) → first_free b.cursor c ≤ first_free b.high c)
     → AreWithinMarks a (joined_marks b w n)
@@ -264,10 +253,6 @@ none_laid (e ∷ es) none =
     let one : count (e ∷ []) e.frame e.channel ≡ 1 = rw here refl in
     absurd (omega (arith, one, count-append (e ∷ []) es e.frame e.channel, none e.frame e.channel))
 
--- the standing adds of joined lists
-pub standing-joined : (xs ys : List Entry) → ((before : List Entry) → fold stand_after before ys ≡ before ++ standing ys) → standing (xs ++ ys) ≡ standing xs ++ standing ys
-standing-joined xs ys backed = fold-append stand_after [] xs ys ∙ backed (standing xs)
-
 -- a seat took another one over
 pub kept_join : (g : Geometry) (p q : ℕ) (xs ys mine yours free freed_too : List Entry) (a b : Marks) (seen saw : ℕ) (ended gone : Bool)
     → IsKept g p xs mine free a seen ended → IsKept g q ys yours freed_too b saw gone
@@ -281,7 +266,7 @@ kept_join g p (suc q) xs ys mine yours free freed_too a b seen saw ended gone x 
     let top : Cursor = later_of a.high b.high in
     let left : (c : ℕ) → first_free a.high c ≤ first_free top c = λ c. up_to_later a.high b.high c in
     let right : (c : ℕ) → first_free b.high c ≤ first_free top c = λ c. later_up_to a.high b.high c in
-    let held : standing (xs ++ ys) ≡ standing xs ++ standing ys = standing-joined xs ys y.backed in
+    let held : standing (xs ++ ys) ≡ standing xs ++ standing ys = fold-append stand_after [] xs ys ∙ y.backed (standing xs) in
     let all : Each (IsBeforeCursor g top) (standing xs ++ standing ys) =
     Each-append (IsBeforeCursor g top) (standing xs) (standing ys)
     (Each-of (IsBeforeCursor g a.cursor) (IsBeforeCursor g top) (standing xs) (behind_up g a.cursor top (λ d d_in. omega (arith, x.marked.cursor_high d, left d))) x.holding.before)

@@ -1,7 +1,7 @@
 -- What an add that is late leaves alone: the replies to all events after it.
 use Rattle.sum_table.specs.Prelude.{append_assoc, List, subst, sym, ℕ, [], ◌++◌, ◌∙◌, ◌∷◌, append-nil, filter_map-append, fold_push, Geometry, first_frame}
-use Rattle.sum_table.specs.Prelude.{Late, Entry, AreReplies, entry_of, IsLegal, IsReply, laid_of, late_row, position_after, position_of, Row, taken_words}
-use Rattle.sum_table.specs.Prelude.{taking_of, entry_of-late, position_after-row, taking_of-row}
+use Rattle.sum_table.specs.Prelude.{Late, Entry, AreReplies, entry_of, IsReply, laid_of, late_row, position_after, position_of, Row, taken_words, taking_of}
+use Rattle.sum_table.specs.Prelude.{entry_of-late, position_after-row, taking_of-row}
 use Rattle.mix_core.specs.KeptLaws.{AreAlike, AreReplies-alike}
 
 -- a history stays what it was after an add that is late
@@ -13,12 +13,8 @@ late_same g h e = record {
 }
 
 -- so an add that is late after the first of some replies can be there
-replies-late : (g : Geometry) (members : ℕ) (k h rs : List Row) (e : Entry) → AreReplies g members k (h ++ rs) → IsReply g members (k ++ h) (late_row e) → AreReplies g members k (h ++ late_row e ∷ rs)
+pub replies-late : (g : Geometry) (members : ℕ) (k h rs : List Row) (e : Entry) → AreReplies g members k (h ++ rs) → IsReply g members (k ++ h) (late_row e) → AreReplies g members k (h ++ late_row e ∷ rs)
 replies-late g members k [] rs e are late =
     (subst (λ x. IsReply g members x (late_row e)) (append-nil k) late, AreReplies-alike g members k (k ++ late_row e ∷ []) rs (late_same g k e) are)
 replies-late g members k (x ∷ h) rs e are late =
     (are.0, replies-late g members (k ++ x ∷ []) h rs e are.1 (subst (λ z. IsReply g members z (late_row e)) (sym (append_assoc k (x ∷ []) h)) late))
-
--- an add that is late where it is can be there: the history is legal with it as well as without it
-pub with_late : (g : Geometry) (members : ℕ) (h rs : List Row) (e : Entry) → IsLegal g members (h ++ rs) → IsReply g members h (late_row e) → IsLegal g members (h ++ late_row e ∷ rs)
-with_late g members h rs e legal late = replies-late g members [] h rs e legal late

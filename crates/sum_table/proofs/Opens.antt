@@ -1,10 +1,8 @@
 -- A new ring meets the rule.
-use Rattle.sum_table.specs.Prelude.{ap, arith, false, length, List, map, pos, refl, set, subst, sym, ℕ, [], ◌*◌, ◌+◌, ◌-◌, ◌/◌, ◌<◌, ◌∙◌, ◌∷◌, ◌≡◌, ◌≤◌}
-use Rattle.sum_table.specs.Prelude.{replicate, nat_tests, ints, get_or-replicate, get_or-set_same, length-replicate, length-set, opening, get_elem?, some}
-use Rattle.sum_table.specs.Prelude.{some-ne-none, Geometry, Cursor, first_frame, first_free, lap, word_of, StandsFor, Entry, first_frame-le, start_marks}
-use Rattle.sum_table.specs.Prelude.{start_of, IsNow, at_only, no_note, none_there, index_of-lt, index_of, words_of, View, Exact, first_track, first_view}
-use Rattle.sum_table.specs.Prelude.{IsRing, IsView, next_at, by_member}
-use Rattle.std.proofs.lemmas.Nat.{div-mul-add}
+use Rattle.sum_table.specs.Prelude.{ap, arith, false, length, List, map, pos, refl, set, subst, sym, ℕ, [], ◌-◌, ◌∙◌, ◌∷◌, ◌≡◌, ◌≤◌, replicate, nat_tests, ints}
+use Rattle.sum_table.specs.Prelude.{get_or-replicate, get_or-set_same, length-replicate, length-set, opening, get_elem?, some, some-ne-none, Geometry, Cursor}
+use Rattle.sum_table.specs.Prelude.{first_frame, first_free, lap, word_of, StandsFor, Entry, first_frame-le, start_marks, start_of, IsNow, at_only, no_note}
+use Rattle.sum_table.specs.Prelude.{none_there, index_of-lt, index_of, words_of, View, Exact, first_track, first_view, IsRing, IsView, next_at, by_member}
 use Rattle.sum_table.specs.declared.view.Key.{Key}
 use Rattle.sum_table.proofs.Keeps.{track_or}
 use Rattle.sum_table.proofs.Kept.{kept_none}
@@ -19,13 +17,7 @@ next_first g = grind arith
 
 -- the frames that a new ring has are those of the first lap
 lap-first : (g : Geometry) (f c : ℕ) → IsNow g (start_of g) f c → lap g f ≡ g.first_lap
-lap-first g f c now =
-    let start_is : first_free (start_of g) c ≡ first_frame g = grind (arith, nat_tests) in
-    let low : first_frame g ≤ f = omega (arith, start_is, now.low) in
-    let high : f < first_frame g + g.frames = omega (arith, start_is, now.high) in
-    let rest : f - g.first_lap * g.frames < g.frames = omega arith in
-    let split : f ≡ g.first_lap * g.frames + (f - g.first_lap * g.frames) = omega arith in
-    ap (λ x. x / g.frames) split ∙ div-mul-add g.first_lap g.frames (f - g.first_lap * g.frames) rest
+lap-first g f c now = grind (arith, nat_tests)
 
 ring_first : (g : Geometry) (silent : ℕ) → StandsFor silent g.first_lap 0 (pos 0) → IsRing g (new_words g silent) [] first_track
 ring_first g silent stands =
@@ -82,7 +74,3 @@ opens k silent stands =
         no_more = λ i up. refl;
       },
     )
-
-pub opens_at : (k : Key) (silent : ℕ) (words : List ℕ) → words ≡ new_words k.geometry silent → StandsFor silent k.geometry.first_lap 0 (pos 0)
-    → Exact k (opening {S = Entry} {V = View} words [] (first_view k))
-opens_at k silent words are stands = subst (λ ws. Exact k (opening {S = Entry} {V = View} ws [] (first_view k))) (sym are) (opens k silent stands)

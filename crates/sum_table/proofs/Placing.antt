@@ -1,13 +1,12 @@
 -- A placement or withdrawal, which is several steps: how it goes on, and what it is at its end.
-use Rattle.sum_table.specs.Prelude.{All, ap, append_assoc, arith, Bool, Err, false, inl, inr, length, List, map, nat_lt, None, Ok, refl, Result, Some, subst}
-use Rattle.sum_table.specs.Prelude.{suc, sym, true, zero, ℕ, ℤ, [], ◌*◌, ◌++◌, ◌+◌, ◌-◌, ◌<◌, ◌^◌, ◌||◌, ◌∙◌, ◌∷◌, ◌≡◌, ◌≢◌, ◌≤◌, cases_lt, false≢true}
-use Rattle.sum_table.specs.Prelude.{append-nil, length-append, map-append, Geometry, first_frame, IsFrom, lap, count_of, lap_of, StandsFor-of, sum_of, Go, Stop}
-use Rattle.sum_table.specs.Prelude.{Again, Exchange, Look, Marks, Entry, Kind, Added, Withdrawn, Position, AsksCompose, placement_asks, IsLegal, IsReply}
-use Rattle.sum_table.specs.Prelude.{late_row, Row, an_add, EndsIn, marks_after, standing, IsAskNumber, load_of, Loads, marks_if, OnLate, OnWhole, PortView}
-use Rattle.sum_table.specs.Prelude.{index_of, rank, MixSeat, View, BeginsWith, by_member, entry_by, HasLaid, HasLocated, HasLost, HasNoted, IsLaterSeat}
-use Rattle.sum_table.specs.Prelude.{IsLaterSeat-joined, IsLaterSeat-same, IsTurned, LaysCounted, MakesIn, MakesLate, MayLay, noted_word, NotesRise-same}
-use Rattle.sum_table.specs.Prelude.{or_false, pass_count, seat_view, SeatFinds, SeatLaid, SeatLaid-composes, SeatLays, SeatLoaded, SeatLoaded-composes, view_of}
-use Rattle.sum_table.specs.Prelude.{HoldsLast, in_row, IsStep, Makes, MayStand, sighting, Tells}
+use Rattle.sum_table.specs.Prelude.{ap, append_assoc, arith, Bool, Err, inl, inr, length, List, map, nat_lt, Ok, refl, Result, Some, subst, suc, sym, zero, ℕ}
+use Rattle.sum_table.specs.Prelude.{ℤ, [], ◌*◌, ◌++◌, ◌+◌, ◌-◌, ◌<◌, ◌^◌, ◌∙◌, ◌∷◌, ◌≡◌, ◌≢◌, ◌≤◌, cases_lt, false≢true, nat_tests, append-nil, length-append}
+use Rattle.sum_table.specs.Prelude.{map-append, Geometry, first_frame, IsFrom, lap, count_of, lap_of, StandsFor-of, sum_of, Go, Stop, Again, Exchange, Look}
+use Rattle.sum_table.specs.Prelude.{Marks, Entry, Kind, Added, Withdrawn, Position, AsksCompose, placement_asks, IsLegal, IsReply, late_row, Row, marks_after}
+use Rattle.sum_table.specs.Prelude.{load_of, Loads, PortView, index_of, rank, MixSeat, View, BeginsWith, by_member, entry_by, HasLaid, HasLocated, HasLost}
+use Rattle.sum_table.specs.Prelude.{HasNoted, IsLaterSeat, IsLaterSeat-joined, IsLaterSeat-same, IsTurned, LaysCounted, MakesIn, MakesLate, MayLay, noted_word}
+use Rattle.sum_table.specs.Prelude.{pass_count, seat_view, SeatLaid, SeatLaid-composes, SeatLays, SeatLoaded, SeatLoaded-composes, view_of, HoldsLast, in_row}
+use Rattle.sum_table.specs.Prelude.{IsStep, Makes, MayStand, sighting}
 use Rattle.std.proofs.Common.{replicate}
 use Rattle.std.specs.Result.{IsErr}
 use Rattle.snd_base.specs.declared.errors.PcmError.{PcmError}
@@ -80,42 +79,14 @@ late_step s t u n e goes noted reply =
     )
 
 tells_seat : (s u : MixSeat) (f c n : ℕ) → HasNoted s u f c n → IsAt s f c → TellsSeat s n f c
-tells_seat s u f c n noted at_it =
-    let own : (view_of s).key ≡ s.key = s.known.same_key in
-    let told : Tells (view_of s) n f c =
-    noted.found.tells f c (ap (λ (k : Key). index_of k.geometry f c) own) (rw own at_it.channel) (rw own at_it.least) (omega (arith, at_it.ahead, s.known.same_seen, ap (λ (k : Key). k.geometry.frames) own)) in
-    record {
-      not_before = rw own at told.not_before;
-      late = λ seen. rw own at (told.late (omega (arith, s.known.same_seen, seen)));
-      room = λ same. omega (arith, told.room (rw own same) at_it.may, ap (λ (k : Key). k.places) own);
-    }
-
--- a word of another lap has a later one
-pub is_past : (s u : MixSeat) (f c n : ℕ) → HasNoted s u f c n → IsAt s f c → lap_of n ≢ lap s.key.geometry f → lap s.key.geometry f < lap_of n
-is_past s u f c n noted at_it other = omega (arith, (tells_seat s u f c n noted at_it).not_before, other)
+tells_seat s u f c n noted at_it = grind (arith, nat_tests)
 
 -- a seat's last standing add, after steps that placed nothing
 holds_on : (s t : MixSeat) (f c : ℕ) (sample : ℤ) → (view_of t).laid ≡ (view_of s).laid → t.reach.marks ≡ s.reach.marks → HoldsLast (view_of s) f c sample → HoldsLast (view_of t) f c sample
-holds_on s t f c sample laid marks holds = record {
-  early = holds.early;
-  last = holds.last;
-  ends = ap standing laid ∙ holds.ends;
-  frame = holds.frame;
-  channel = holds.channel;
-  sample = holds.sample;
-  from_floor = rw (t.known.same_marks, marks, ← s.known.same_marks) holds.from_floor;
-}
+holds_on s t f c sample laid marks holds = grind (arith, nat_tests)
 
 pub at_on : (s t : MixSeat) (f c : ℕ) → IsLaterSeat s t → (view_of t).laid ≡ (view_of s).laid → t.reach.marks ≡ s.reach.marks → t.seen ≡ s.seen → IsAt s f c → IsAt t f c
-at_on s t f c goes laid marks seen at_it = record {
-  channel = rw goes.key at_it.channel;
-  least = rw goes.key at_it.least;
-  ahead = rw (goes.key, seen) at_it.ahead;
-  may = elim at_it.may [
-    | inl from ↦ inl (omega (arith, from.0, s.known.same_places, t.known.same_places, goes.places), rw (t.known.same_marks, marks, ← s.known.same_marks) from.1)
-    | inr one ↦ inr (one.0, holds_on s t f c one.0 laid marks one.1)
-  ];
-}
+at_on s t f c goes laid marks seen at_it = grind (arith, nat_tests)
 
 -- the rank of a word of 64 bits
 rank-fields : (w : ℕ) → w < 2 ^ 64 → rank w ≡ lap_of w * 256 + count_of w
@@ -240,10 +211,7 @@ trying_on s t u f c word found i before ticks after is lost at_it same ticked =
 -- a word of another lap is past the frame's, while they go on
 pub past_on : (s t u : MixSeat) (f c n : ℕ) (words : List ℕ) → HasFound s t f c words → HasNoted t u f c n
     → IsAt s f c → lap_of n ≢ lap s.key.geometry f → lap s.key.geometry f < lap_of n
-past_on s t u f c n words is noted at_it other =
-    let past : lap t.key.geometry f < lap_of n = is_past t u f c n noted (at_on s t f c is.goes is.laid is.marks is.seen at_it)
-    (λ same. other (same ∙ ap (λ (k : Key). lap k.geometry f) is.goes.key)) in
-    subst (λ (k : Key). lap k.geometry f < lap_of n) is.goes.key past
+past_on s t u f c n words is noted at_it other = grind (arith, nat_tests)
 
 -- a seat that only found words placed nothing, and loaded nothing
 nothing_laid : (s t : MixSeat) (f c : ℕ) (words : List ℕ) → HasFound s t f c words → SeatLaid s t []
@@ -291,11 +259,11 @@ seat_view_is s t m goes marks seen =
     view_same _ _ _ _ _ _ _ _ _ _ (ap (λ (k : Key). k.geometry) goes.key) goes.member (ap (λ n. nat_lt 0 n) goes.places) marks seen
 
 -- what a step is that the gate stopped
-pub stopped_lays : {T : Type 0} (stops : T → ℕ) (asked : T → T → List StepKind → Pass → Type 0) (s t : MixSeat) (g h : T) (e : Entry) (words : List ℕ) (n before after : ℕ)
+pub stopped_lays : {T : Type 0} {stops : T → ℕ} {asked : T → T → List StepKind → Pass → Type 0} {s t : MixSeat} {g h : T} {e : Entry} {words : List ℕ} {before after : ℕ} (n : ℕ)
     → HasFound s t e.frame e.channel words → length words ≡ n - 1 → 1 ≤ n → (e.frame < s.seen → n ≡ 1) → asked g h (placement_asks n) Stop → stops h ≡ stops g + 1
     → after ≡ before + (n - 1) → n - 1 ≤ 1 + 3 * s.key.places
     → LaysCounted stops asked s g before e Stopped t h after
-stopped_lays stops asked s t g h e words n before after is number some early asks up counted bound = record {
+stopped_lays {s = s} {t = t} {e = e} {words = words} n is number some early asks up counted bound = record {
   step = record {
     view_is = seat_view_is s t s.reach.marks is.goes is.marks is.seen;
     laid_it = nothing_laid s t e.frame e.channel words is;
@@ -316,13 +284,13 @@ stopped_lays stops asked s t g h e words n before after is number some early ask
 }
 
 -- one that was late
-pub late_lays : {T : Type 0} (stops : T → ℕ) (asked : T → T → List StepKind → Pass → Type 0) (s t u : MixSeat) (g h : T) (k : Kind) (f c : ℕ) (x : ℤ)
-    (words : List ℕ) (word n before after : ℕ)
+pub late_lays : {T : Type 0} {stops : T → ℕ} {asked : T → T → List StepKind → Pass → Type 0} {s t u : MixSeat} {g h : T} {k : Kind} {f c : ℕ} {x : ℤ}
+    {words : List ℕ} {word before after : ℕ} (n : ℕ)
     → HasFound s t f c words → HasNoted t u f c word → MayLay k s f c x → lap_of word ≢ lap s.key.geometry f
     → length words + 1 ≡ n → (f < s.seen → n ≡ 1) → asked g h (placement_asks n) Go → stops h ≡ stops g
     → after ≡ before + n → n ≤ 1 + 3 * s.key.places
     → LaysCounted stops asked s g before (entry_by s k f c x) (Late word) u h after
-late_lays stops asked s t u g h k f c x words word n before after is noted lay other number early asks same counted bound =
+late_lays {s = s} {t = t} {u = u} {k = k} {f = f} {c = c} {x = x} {words = words} {word = word} n is noted lay other number early asks same counted bound =
     let at_it : IsAt s f c = at_lay s k f c x lay in
     let past : lap s.key.geometry f < lap_of word = past_on s t u f c word words is noted at_it other in
     let all : HasFound s u f c (words ++ word ∷ []) = found_more s t u f c word words is noted in
@@ -351,12 +319,12 @@ late_lays stops asked s t u g h k f c x words word n before after is noted lay o
     }
 
 -- and one that was done
-pub whole_lays : {T : Type 0} (stops : T → ℕ) (asked : T → T → List StepKind → Pass → Type 0) (s t u : MixSeat) (g h : T) (e : Entry) (words : List ℕ) (n before after : ℕ)
+pub whole_lays : {T : Type 0} {stops : T → ℕ} {asked : T → T → List StepKind → Pass → Type 0} {s t u : MixSeat} {g h : T} {e : Entry} {words : List ℕ} {before after : ℕ} (n : ℕ)
     → HasFound s t e.frame e.channel words → HasLaid t u e → s.seen ≤ e.frame
     → length words + 1 ≡ n → 2 ≤ n → asked g h (placement_asks n) Go → stops h ≡ stops g
     → after ≡ before + n → n ≤ 1 + 3 * s.key.places
     → LaysCounted stops asked s g before e Whole u h after
-whole_lays stops asked s t u g h e words n before after is laid not_before number two asks same counted bound =
+whole_lays {s = s} {t = t} {u = u} {e = e} {words = words} n is laid not_before number two asks same counted bound =
     let one : SeatLaid s u (e ∷ []) = one_laid s t u e.frame e.channel words e is laid in
     record {
       step = record {
@@ -395,36 +363,10 @@ pub laid_as : (s t u : MixSeat) (k : Kind) (f c : ℕ) (z x : ℤ) → t.member 
 laid_as s t u k f c z x member same laid =
     subst (λ y. HasLaid t u (entry_by s k f c y)) same (subst (λ m. HasLaid t u (record { member = m; frame = f; channel = c; sample = z; kind = k })) member laid)
 
--- a counted step, whose sample and outcome are also these
-pub counted_as : {T : Type 0} (stops : T → ℕ) (asked : T → T → List StepKind → Pass → Type 0) (s t : MixSeat) (g h : T) (k : Kind) (f c : ℕ) (z x : ℤ) (ended outcome : Ended) (before after : ℕ)
-    → z ≡ x → outcome ≡ ended → LaysCounted stops asked s g before (entry_by s k f c z) ended t h after → LaysCounted stops asked s g before (entry_by s k f c x) outcome t h after
-counted_as stops asked s t g h k f c z x ended outcome before after sample end is =
-    subst (λ y. LaysCounted stops asked s g before (entry_by s k f c y) outcome t h after) sample
-    (subst (λ y. LaysCounted stops asked s g before (entry_by s k f c z) y t h after) (sym end) is)
-
--- a step whose sample is also another
-pub lays_as : {T : Type 0} (stops : T → ℕ) (asked : T → T → List StepKind → Pass → Type 0) (s t : MixSeat) (g h : T) (k : Kind) (f c : ℕ) (z x : ℤ) (ended : Ended)
-    → z ≡ x → SeatLays stops asked s g (entry_by s k f c z) ended t h → SeatLays stops asked s g (entry_by s k f c x) ended t h
-lays_as stops asked s t g h k f c z x ended sample is = subst (λ y. SeatLays stops asked s g (entry_by s k f c y) ended t h) sample is
-
 -- ---- a load of the position, as a step of the seat and its gate
 
-or_now : (before now : Bool) → (before ≡ true → now ≡ true) → now ≡ (before || (now || false))
-or_now true now stays = stays refl
-or_now false true stays = refl
-or_now false false stays = refl
-
 one_loaded : (s t : MixSeat) (p : Position) → HasLocated s t p → SeatLoaded s t (p ∷ [])
-one_loaded s t p is = record {
-  positions = ap (λ (v : View). v.positions) is.view;
-  rising = (is.not_before, tt);
-  last = is.seen;
-  gone = ap (λ (v : View). v.seen_gone) is.view ∙ or_now (view_of s).seen_gone p.gone is.gone;
-  after_gone = λ gone. one_gone p (is.gone gone);
-} where
-  one_gone : (p : Position) → p.gone ≡ true → All (λ (x : Position). x.gone ≡ true) (p ∷ [])
-  one_gone p gone zero d inside = gone
-  one_gone p gone (suc k) d inside = absurd (omega (arith, inside))
+one_loaded s t p is = grind (arith, nat_tests)
 
 pub loads_one : {T : Type 0} (stops : T → ℕ) (asked : T → T → List StepKind → Pass → Type 0) (s t : MixSeat) (g h : T) (p : Position)
     → HasLocated s t p → asked g h (kind.Position ∷ []) Go → stops h ≡ stops g → Loads seat_view SeatLaid SeatLoaded stops asked s g (Some p) t h
@@ -445,13 +387,10 @@ loads_one stops asked s t g h p is asks same = record {
 }
 
 -- where the gate stopped it, nothing was loaded
-none_of : (r : Result Position PcmError) → IsErr r → None ≡ load_of r
-none_of (Ok p) is = absurd (false≢true is)
-none_of (Err e) is = refl
-
 pub loads_none : {T : Type 0} (stops : T → ℕ) (asked : T → T → List StepKind → Pass → Type 0) (s : MixSeat) (g h : T) (r : Result Position PcmError)
     → IsErr r → asked g h (kind.Position ∷ []) Stop → stops h ≡ stops g + 1 → Loads seat_view SeatLaid SeatLoaded stops asked s g (load_of r) s h
-loads_none stops asked s g h r is asks up = subst (λ l. Loads seat_view SeatLaid SeatLoaded stops asked s g l s h) (none_of r is) (record {
+loads_none stops asked s g h (Ok p) is asks up = absurd (false≢true is)
+loads_none stops asked s g h (Err e) is asks up = record {
   view_is = refl;
   newer = tt;
   within = tt;
@@ -459,87 +398,17 @@ loads_none stops asked s g h r is asks up = subst (λ l. Loads seat_view SeatLai
   laid_nothing = SeatLaid-composes.none s;
   asked_it = asks;
   stopped = up;
-})
+}
 
 -- ---- a seat that went to the lap of a frame, and then placed an entry there: this is what it placed from the first
 
 -- it may withdraw what it could before
 pub turned_may : (s p : MixSeat) (f c : ℕ) (x : ℤ) → IsTurned s p f → MayLay Withdrawn s f c x → MayLay Withdrawn p f c x
-turned_may s p f c x is may = (
-  subst (λ m. EndsIn (standing (view_of p).laid) (an_add m f c x ∷ [])) (sym is.member)
-      (subst (λ (v : View). EndsIn (standing v.laid) (an_add s.member f c x ∷ [])) (sym is.view) may.0),
-  subst (λ (m : Marks). IsFrom m.floor f c) (sym is.marks) may.1,
-)
-
-turned_laid : (s p : MixSeat) (f : ℕ) → IsTurned s p f → SeatLaid s p []
-turned_laid s p f is = record {
-  goes = record {
-    ring = is.ring;
-    key = is.key;
-    member = is.member;
-    places = is.places;
-    history = ([], ap (λ (v : View). v.history) is.view ∙ sym (append-nil (view_of s).history));
-    heard = ap (λ (v : View). v.heard) is.view;
-    notes = NotesRise-same (view_of s) (view_of p) (ap (λ (v : View). v.noted) is.view);
-  };
-  marks = is.marks;
-  laid = ap (λ (v : View). v.laid) is.view ∙ sym (append-nil (view_of s).laid);
-  mine = ap (λ (v : View). v.mine) is.view ∙ sym (append-nil (view_of s).mine);
-  adds = ([], ap (λ (v : View). v.history) is.view ∙ sym (append-nil (view_of s).history));
-}
-
-turned_loaded : (s p : MixSeat) (f : ℕ) → IsTurned s p f → SeatLoaded s p []
-turned_loaded s p f is = record {
-  positions = ap (λ (v : View). v.positions) is.view ∙ sym (append-nil (view_of s).positions);
-  rising = tt;
-  last = is.seen;
-  gone = ap (λ (v : View). v.seen_gone) is.view ∙ or_false (view_of s).seen_gone;
-  after_gone = λ was k d inside. absurd (omega arith);
-}
-
-turned_late : (s p t : MixSeat) (f : ℕ) (e : Entry) → IsTurned s p f → MakesLate p t e → MakesLate s t e
-turned_late s p t f e is late = (
-  late.0,
-  late.1,
-  late.2,
-  subst (λ v. IsStep v (view_of t) late.0 late.1 late.2 []) is.view late.3,
-  subst (λ (k : Key). Rattle.mix_core.specs.History.IsReply k.geometry late.1 (view_of t).history (Rattle.mix_core.specs.History.late_row (Rattle.sum_table.specs.Laid.by_member late.0 e))) is.key late.4,
-)
-
-on_late : (ended : Ended) (A B : Type 0) → (A → B) → OnLate ended (λ word. A) → OnLate ended (λ word. B)
-on_late Ended.Whole A B f a = a
-on_late (Ended.Late word) A B f a = f a
-on_late Ended.Stopped A B f a = a
-
-turned_finds : (s p t : MixSeat) (f : ℕ) (e : Entry) (ended : Ended) (words : List ℕ) → IsTurned s p f → SeatFinds p t e ended words → SeatFinds s t e ended words
-turned_finds s p t f e ended words is found = record {
-  sightings = found.sightings
-      ∙ (ap (λ (v : View). v.sightings ++ map (sighting (index_of p.key.geometry e.frame e.channel)) words) is.view
-      ∙ ap (λ (k : Key). (view_of s).sightings ++ map (sighting (index_of k.geometry e.frame e.channel)) words) is.key);
-  in_event = subst (λ v. OnWhole ended (Makes v (view_of t) (λ by. in_row by e ∷ []))) is.view found.in_event;
-  late_event = on_late ended (MakesLate p t e) (MakesLate s t e) (turned_late s p t f e is) found.late_event;
-}
-
-turned_view : (s p : MixSeat) (f : ℕ) → IsTurned s p f → seat_view p ≡ seat_view s
-turned_view s p f is = rw (is.key, is.member, is.places, is.marks, is.seen) refl
+turned_may s p f c x is may = grind (arith, nat_tests)
 
 turned_lays : {T : Type 0} (stops : T → ℕ) (asked : T → T → List StepKind → Pass → Type 0) (s p t : MixSeat) (f : ℕ) (g h : T) (e : Entry) (ended : Ended)
     → IsTurned s p f → SeatLays stops asked p g e ended t h → SeatLays stops asked s g e ended t h
-turned_lays stops asked s p t f g h e ended is lays = record {
-  view_is = subst (λ (w : PortView). seat_view t ≡ record w { marks = marks_if ended w.marks (marks_after w.geometry w.marks e) }) (turned_view s p f is) lays.view_is;
-  laid_it = SeatLaid-composes.joined s p t [] _ (turned_laid s p f is) lays.laid_it;
-  loaded_nothing = SeatLoaded-composes.joined s p t [] [] (turned_loaded s p f is) lays.loaded_nothing;
-  not_before_seen = subst (λ n. OnWhole ended (n ≤ e.frame)) is.seen lays.not_before_seen;
-  shown = lays.shown;
-  words = lays.words;
-  found = turned_finds s p t f e ended lays.words is lays.found;
-  found_last = lays.found_last;
-  asks = lays.asks;
-  asks_number = subst (λ n. IsAskNumber ended e.frame n lays.asks) is.seen lays.asks_number;
-  words_number = lays.words_number;
-  asked_them = lays.asked_them;
-  stopped = lays.stopped;
-}
+turned_lays stops asked s p t f g h e ended is lays = grind (arith, nat_tests)
 
 -- the entry is of the seat's member before and after
 pub turned_counted : {T : Type 0} (stops : T → ℕ) (asked : T → T → List StepKind → Pass → Type 0) (s p t : MixSeat) (f : ℕ) (g h : T) (k : Kind) (c : ℕ) (x : ℤ) (ended : Ended) (before after : ℕ)

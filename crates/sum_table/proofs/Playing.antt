@@ -2,9 +2,9 @@
 use Rattle.sum_table.specs.Prelude.{ap, arith, Bool, List, pos, Some, subst, sym, true, ℕ, ℤ, [], ◌+◌, ◌<◌, ◌∙◌, ◌∷◌, ◌≡◌, ◌≢◌, ◌≤◌, nat_tests, Allows, Me}
 use Rattle.sum_table.specs.Prelude.{step, none, Geometry, Cursor, suc-le-end_frame, cursor_after, end_frame, first_frame, IsWithin, lap, clamp_of, word_of}
 use Rattle.sum_table.specs.Prelude.{StandsFor, sum_of, Take, Took, Taken, Entry, laid_of, Row, total, has_all-published, last_number-more, lap-le, index_of}
-use Rattle.sum_table.specs.Prelude.{PlayerSeat, Track, View, BeginsWith, Exact, next_at, position_at, the_track, IsPlayer, HasTaken, IsTurnedPlayer}
-use Rattle.sum_table.specs.Prelude.{player_view, track_of, Makes, next_taken, position_store, track_published, track_taken, unplug_store, with_gone}
-use Rattle.sum_table.specs.Prelude.{with_published, with_taken, word_take}
+use Rattle.sum_table.specs.Prelude.{PlayerSeat, Track, View, Exact, next_at, position_at, the_track, IsPlayer, HasTaken, IsTurnedPlayer, player_view, track_of}
+use Rattle.sum_table.specs.Prelude.{Makes, next_taken, position_store, track_published, track_taken, unplug_store, with_gone, with_published, with_taken}
+use Rattle.sum_table.specs.Prelude.{word_take}
 use Rattle.sum_table.specs.declared.view.Key.{Key}
 use Rattle.sum_table.proofs.Keeps.{publishes, takes, unplugs}
 use Rattle.sum_table.proofs.Rings.{next_at-taken}
@@ -124,21 +124,4 @@ turned_fits p q is fits = λ e. omega (arith, fits, e, turned_lap p q is)
 
 -- a player that went to a lap, and then took a word there: this is what it took from the first
 pub turned_taken : (p q r : PlayerSeat) (x : Taken) → IsTurnedPlayer p q → HasTaken q r x → HasTaken p r x
-turned_taken p q r x is has = record {
-  goes = record {
-    ring = has.goes.ring ∙ is.ring;
-    key = has.goes.key ∙ is.key;
-    history = subst (λ (v : View). BeginsWith (player_view r).history v.history) is.view has.goes.history;
-  };
-  view = has.view ∙ ap (λ (v : View). with_taken v (player_view r).history (the_track v.track) x) is.view;
-  track = has.track ∙ ap (λ (v : View). track_taken (the_track v.track) x) is.view;
-  frame = has.frame ∙ ap (λ (y : Cursor). y.frame) is.next;
-  channel = has.channel ∙ ap (λ (y : Cursor). y.channel) is.next;
-  value = has.value;
-  next = has.next
-      ∙ (ap (λ (k : Key). cursor_after k.geometry q.next.frame q.next.channel) is.key
-      ∙ ap (λ (y : Cursor). cursor_after p.key.geometry y.frame y.channel) is.next);
-  position = has.position ∙ is.position;
-  gone = has.gone ∙ is.gone;
-  event = subst (λ (v : View). Makes v (player_view r) (λ _. (Take, Took x.frame x.channel x.value) ∷ [])) is.view has.event;
-}
+turned_taken p q r x is has = grind (arith, nat_tests)

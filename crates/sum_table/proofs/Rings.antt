@@ -1,10 +1,10 @@
 -- The words, the entries and the player's track agree after each kind of step.
-use Rattle.sum_table.specs.Prelude.{ap, arith, Bool, false, get_or, inl, inr, length, List, nat_lt, negsuc, pos, refl, set, subst, sym, true, ℕ, ℤ, [], ◌&&◌}
-use Rattle.sum_table.specs.Prelude.{◌*◌, ◌++◌, ◌+ℤ◌, ◌+◌, ◌<◌, ◌==◌, ◌||◌, ◌∙◌, ◌∷◌, ◌≡◌, ◌≤ℤ◌, ◌≤◌, add-div_right, nat_tests, ints, get_or-set_other}
+use Rattle.sum_table.specs.Prelude.{ap, arith, Bool, false, get_or, inl, inr, length, List, nat_lt, negsuc, pos, refl, set, subst, sym, ℕ, ℤ, [], ◌&&◌, ◌*◌}
+use Rattle.sum_table.specs.Prelude.{◌++◌, ◌+ℤ◌, ◌+◌, ◌<◌, ◌==◌, ◌||◌, ◌∙◌, ◌∷◌, ◌≡◌, ◌≤ℤ◌, ◌≤◌, add-div_right, nat_tests, ints, get_or-set_other}
 use Rattle.sum_table.specs.Prelude.{get_or-set_same, length-append, length-set, All-push, Geometry, Cursor, nat_lt-behind, next_word-suc, suc-le-end_frame}
 use Rattle.sum_table.specs.Prelude.{cursor_after, end_frame, first_frame, first_free, lap, next_word, clamp_of, word_of, StandsFor, Taken, Entry, AreExact}
 use Rattle.sum_table.specs.Prelude.{is_taken, at, total, value_of, place_cases, IsNow, words-taken, words-written, last_number-more, Rising-more, index_of}
-use Rattle.sum_table.specs.Prelude.{words_of, Track, IsRing, next_at, position_at, count, SameSums, next_taken, track_gone, track_published, track_taken}
+use Rattle.sum_table.specs.Prelude.{words_of, Track, IsRing, next_at, position_at, count, SameSums, next_taken, track_published, track_taken}
 use Rattle.std.proofs.Math.Bool.{or_comm}
 use Rattle.mix_core.specs.MoreLaws.{AreInOrder-more, at-more_elsewhere, at-more_here, is_taken-more, is_taken-none, total-more_elsewhere, total-more_here}
 use Rattle.ring_rule.specs.Positions.{Rising, last_position}
@@ -29,10 +29,7 @@ position-others g words f c word = get_or-set_other words 0 (index_of g f c) wor
 
 -- a frame and channel that the ring has now were not taken
 pub not_taken : (g : Geometry) (words : List ℕ) (es : List Entry) (t : Track) (f c : ℕ) → IsRing g words es t → IsNow g (next_at g t) f c → is_taken t.taken f c ≡ false
-not_taken g words es t f c r now =
-    let least : first_frame g ≤ f = grind (arith, nat_tests, now.low) in
-    let before : nat_lt f (first_free (next_at g t) c) ≡ false = grind (arith, nat_tests, now.low) in
-    r.took f c now.channel least ∙ before
+not_taken g words es t f c r now = grind (arith, nat_tests)
 
 -- an entry was placed
 pub IsRing-put : (g : Geometry) (words : List ℕ) (es : List Entry) (t : Track) (e : Entry) (word : ℕ)
@@ -119,7 +116,7 @@ IsRing-take g words es t z word r fits far stands value =
     }
 
 -- the player stored a position and whether the card is gone
-IsRing-stored : (g : Geometry) (words : List ℕ) (es : List Entry) (t : Track) (published : List ℕ) (gone : Bool) → IsRing g words es t
+pub IsRing-stored : (g : Geometry) (words : List ℕ) (es : List Entry) (t : Track) (published : List ℕ) (gone : Bool) → IsRing g words es t
     → Rising (first_frame g) published → last_position g published ≤ (next_at g t).frame
     → IsRing g (set words 0 (word_of (last_position g published) gone)) es (record t { published = published; gone = gone })
 IsRing-stored g words es t published gone r rising not_ahead =
@@ -138,8 +135,3 @@ IsRing-publish g words es t r =
     let last : position_at g (track_published t p) ≡ p = last_number-more (first_frame g) t.published p in
     subst (λ q. IsRing g (set words 0 (word_of q t.gone)) es (track_published t p)) last
     (IsRing-stored g words es t (t.published ++ p ∷ []) t.gone r (Rising-more (first_frame g) t.published p r.rising r.not_ahead) (omega (arith, last)))
-
--- the card was unplugged
-pub IsRing-gone : (g : Geometry) (words : List ℕ) (es : List Entry) (t : Track) → IsRing g words es t
-    → IsRing g (set words 0 (word_of (position_at g t) true)) es (track_gone t)
-IsRing-gone g words es t r = IsRing-stored g words es t t.published true r r.rising r.not_ahead

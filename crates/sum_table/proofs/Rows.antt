@@ -1,15 +1,15 @@
 -- The ring's history: how it goes on at each kind of step, and whose step that is.
 use Rattle.sum_table.specs.Prelude.{ap, append_assoc, arith, false, inl, inr, length, List, map, refl, set, Some, subst, suc, sym, zero, ℕ, ℤ, [], ◌++◌, ◌+◌}
-use Rattle.sum_table.specs.Prelude.{◌<◌, ◌∙◌, ◌∷◌, ◌≡◌, ◌≢◌, ◌≤◌, ints, append-nil, length-set, map-append, fold_push, at_set, set_here, get_elem?, some}
-use Rattle.sum_table.specs.Prelude.{some-ne-none, Geometry, Cursor, first_frame, IsFrom, lap, clamp_of, Publish, Take, In, Published, Took, Taken, Marks, Entry}
-use Rattle.sum_table.specs.Prelude.{IsHeld, IsInside, IsLegal, IsReply, IsSample, laid_of, next_to_take, position_after, position_of, Row, taken_words}
+use Rattle.sum_table.specs.Prelude.{◌<◌, ◌∙◌, ◌∷◌, ◌≡◌, ◌≢◌, ◌≤◌, nat_tests, ints, append-nil, length-set, map-append, fold_push, at_set, set_here, get_elem?}
+use Rattle.sum_table.specs.Prelude.{some, some-ne-none, Geometry, Cursor, first_frame, IsFrom, lap, clamp_of, Publish, Take, In, Published, Took, Taken, Marks}
+use Rattle.sum_table.specs.Prelude.{Entry, IsHeld, IsInside, IsLegal, IsReply, IsSample, laid_of, next_to_take, position_after, position_of, Row, taken_words}
 use Rattle.sum_table.specs.Prelude.{laid_of-append_published, laid_of-append_rows, laid_of-append_took, position_after-row, taken_words-append_published}
 use Rattle.sum_table.specs.Prelude.{taken_words-append_rows, taken_words-append_took, total-append, last_entry, marks_by, marks_of, standing, standing_of}
 use Rattle.sum_table.specs.Prelude.{total, without_last, IsLegal-more, count-append, IsHolding, IsHolding-last, last_entry-more, own-more, own-more_other}
 use Rattle.sum_table.specs.Prelude.{last_number-more, Track, View, BeginsWith, IsHistory, IsKept, IsOwn, next_at, position_at, all_laid, by_member, own_entries}
-use Rattle.sum_table.specs.Prelude.{SameSums, in_row, IsStep, next_taken, track_gone, track_published, track_taken}
+use Rattle.sum_table.specs.Prelude.{SameSums, in_row, IsStep, next_taken, track_published, track_taken}
 use Rattle.sum_table.proofs.Kept.{HeldFacts, IsHeldAt, held_facts, marks_by-member, standing-member}
-use Rattle.sum_table.proofs.Sums.{SameSums-by_member, SameSums-joined, SameSums-put, SameSums-set}
+use Rattle.sum_table.proofs.Sums.{SameSums-by_member, SameSums-put, SameSums-set}
 
 pub within : {A : Type 0} (l : List A) (i : ℕ) (a : A) → get_elem? l i ≡ some a → i < length l
 within [] i a here = absurd (some-ne-none a (sym here))
@@ -27,11 +27,7 @@ pub history_over : (g : Geometry) (views later : List View) (t : Track) (h : Lis
     → IsHistory g views t h → length views ≤ length later → SameSums (all_laid views) (all_laid later)
     → ((i : ℕ) (u : View) → get_elem? later i ≡ some u → u.ended ≡ false → own_entries i (laid_of h) ≡ map (by_member i) u.mine)
     → IsHistory g later t h
-history_over g views later t h y up sums owns =
-    let legal : (members : ℕ) → length later ≤ members → IsLegal g members h = λ members most. y.legal members (omega arith) in
-    let no_more : (i : ℕ) → length later ≤ i → own_entries i (laid_of h) ≡ [] = λ i past. y.no_more i (omega arith) in
-    let both = SameSums-joined (laid_of h) (all_laid views) (all_laid later) y.sums sums in
-    assumption
+history_over g views later t h y up sums owns = grind (arith, nat_tests)
 
 -- the adds that a seat made stay those of its number
 pub owns_same : (g : Geometry) (views : List View) (t : Track) (h : List Row) (id : ℕ) (v w : View) → IsHistory g views t h → get_elem? views id ≡ some v
@@ -49,10 +45,6 @@ history_same g views t h id v w y here laid mine ended =
       | inl this ↦ owns_same g views t h id v w y here mine ended i u this lasts
       | inr other ↦ y.owns i u other.1 lasts
     ])
-
--- the same ring's history, for a player that unplugged the card
-pub history_gone : (g : Geometry) (views : List View) (t : Track) (h : List Row) → IsHistory g views t h → IsHistory g views (track_gone t) h
-history_gone g views t h y = assumption
 
 -- one more row, which placed nothing
 history_row : (g : Geometry) (views : List View) (t u : Track) (h : List Row) (r : Row) → IsHistory g views t h → laid_of (h ++ r ∷ []) ≡ laid_of h → ((members : ℕ) → IsReply g members h r)
@@ -97,11 +89,6 @@ pub own_marks : (g : Geometry) (views : List View) (t : Track) (h : List Row) (i
     → IsHistory g views t h → get_elem? views id ≡ some v → v.ended ≡ false → marks_of g id (laid_of h) ≡ marks_by g v.mine
 own_marks g views t h id v y here lasts = ap (marks_by g) (y.owns id v here lasts) ∙ marks_by-member g id v.mine
 
--- and its standing adds are those
-pub own_standing : (g : Geometry) (views : List View) (t : Track) (h : List Row) (id : ℕ) (v : View)
-    → IsHistory g views t h → get_elem? views id ≡ some v → v.ended ≡ false → standing_of id (laid_of h) ≡ map (by_member id) (standing v.mine)
-own_standing g views t h id v y here lasts = ap standing (y.owns id v here lasts) ∙ standing-member id v.mine
-
 -- a member may add at a frame and channel
 pub inside : (g : Geometry) (views : List View) (t : Track) (h : List Row) (id members : ℕ) (v : View) (f c : ℕ)
     → IsHistory g views t h → get_elem? views id ≡ some v → v.ended ≡ false → IsOwn g v.mine v.free v.marks → length views ≤ members
@@ -130,7 +117,7 @@ is_held g views t h id members v seen f c s y here lasts x up held =
     let mine : standing v.mine ≡ (o.ends.0 ++ without_last v.free) ++ held.last ∷ [] =
     o.ends.1 ∙ (ap (λ zs. o.ends.0 ++ zs) last ∙ sym (append_assoc o.ends.0 (without_last v.free) (held.last ∷ []))) in
     let one : last_entry (standing_of id (laid_of h)) ≡ Some (by_member id held.last) =
-    ap last_entry (own_standing g views t h id v y here lasts ∙ (ap (map (by_member id)) mine ∙ map-append (by_member id) (o.ends.0 ++ without_last v.free) (held.last ∷ [])))
+    ap last_entry (ap standing (y.owns id v here lasts) ∙ (standing-member id v.mine ∙ (ap (map (by_member id)) mine ∙ map-append (by_member id) (o.ends.0 ++ without_last v.free) (held.last ∷ []))))
     ∙ last_entry-more (map (by_member id) (o.ends.0 ++ without_last v.free)) (by_member id held.last) in
     record {
       member_in_range = omega (arith, within views id v here);

@@ -1,6 +1,6 @@
 -- What a seat's steps may do and do, said of the seat's fields.
-use Rattle.sum_table.specs.Prelude.{ap, append_assoc, arith, false, get_or, IfSome, inl, inr, length, List, negsuc, None, of_z, Option, pos, refl, set, Some}
-use Rattle.sum_table.specs.Prelude.{subst, suc, sym, to_z, true, ℕ, ℤ, [], ◌++◌, ◌+ℤ◌, ◌+◌, ◌<◌, ◌==◌, ◌∙◌, ◌∷◌, ◌≡◌, ◌≢◌, ◌≤ℤ◌, ◌≤◌, cases_eq, nat_tests, ints}
+use Rattle.sum_table.specs.Prelude.{ap, append_assoc, arith, get_or, IfSome, inl, inr, length, List, negsuc, None, of_z, Option, pos, refl, set, Some, subst}
+use Rattle.sum_table.specs.Prelude.{suc, sym, to_z, true, ℕ, ℤ, [], ◌++◌, ◌+ℤ◌, ◌+◌, ◌<◌, ◌==◌, ◌∙◌, ◌∷◌, ◌≡◌, ◌≢◌, ◌≤ℤ◌, ◌≤◌, cases_eq, nat_tests, ints}
 use Rattle.sum_table.specs.Prelude.{to_z-of_z, get_or-set_other, get_or-set_same, length-set, Allows, Me, step, get_elem?, none, some, w16, SFits, either}
 use Rattle.sum_table.specs.Prelude.{Geometry, suc-le-end_frame, end_frame, first_frame, first_free, IsFrom, IsWithin, lap, gone_in, position_in, word_of-fields}
 use Rattle.sum_table.specs.Prelude.{count_of, lap_of, StandsFor, sum_of, Marks, Entry, Kind, Added, Withdrawn, Position, Row, an_add, EndsIn, marks_after}
@@ -10,20 +10,12 @@ use Rattle.sum_table.specs.Prelude.{HasLocated, HasLost, HasNoted, IsLaterSeat, 
 use Rattle.sum_table.specs.Prelude.{in_row, IsStep, IsSumOf, IsWord, Lays, Makes, MakesLook, Notes, position_load, with_entry, with_note, with_position}
 use Rattle.sum_table.specs.Prelude.{word_exchange, word_load}
 use Rattle.atomic_table.specs.Seated.{TableId}
+use Rattle.mix_core.proofs.Soundness.{HasRoom}
 use Rattle.sum_table.specs.declared.seats.mix.RingSpot.{RingSpot}
 use Rattle.sum_table.specs.declared.view.Key.{Key}
 use Rattle.sum_table.proofs.Highs.{IsReach-added, IsReach-withdrawn, last_frame-has}
-use Rattle.sum_table.proofs.Keeps.{MayPut, exchanges, locates, looks, may_put}
+use Rattle.sum_table.proofs.Keeps.{MayPut, exchanges, looks, may_put}
 use Rattle.sum_table.proofs.Kept.{IsLaid-later, held_each, held_laid, held_of, laid_more}
-
--- the steps at the ring's key, which is the view's
-pub locates_at : (k : Key) (slots id : ℕ) (m : Me Entry View) → m.0.key ≡ k → m.0.ended ≡ false
-    → Allows (Exact k) slots id m 0 (λ n. n) (position_load (step slots 0 0 0 none) m)
-locates_at k slots id m same lasts = subst (λ x. Allows (Exact x) slots id m 0 (λ n. n) (position_load (step slots 0 0 0 none) m)) same (locates slots id m lasts)
-
-pub looks_at : (k : Key) (slots id : ℕ) (m : Me Entry View) (i f c : ℕ) → m.0.key ≡ k → m.0.ended ≡ false → c < k.geometry.channels → i ≡ index_of k.geometry f c
-    → Allows (Exact k) slots id m i (λ n. n) (word_load (step slots i 0 0 none) m)
-looks_at k slots id m i f c same lasts in_range index = rw (index, ← same) (looks slots id m f c lasts (rw same in_range))
 
 -- a step's history goes on from what was seen
 pub step_begins : (v w : View) (by members : ℕ) (between rows : List Row) → IsStep v w by members between rows → BeginsWith w.history v.history
@@ -38,12 +30,6 @@ IsNoted-more v w k i n is noted word = record {
     | inr old ↦ noted.words j o old
   ];
 }
-
-pub known_noted : (k : Key) (places : ℕ) (marks : Marks) (seen : ℕ) (last : Option ℕ) (v : View) (h : List Row) (i n : ℕ)
-    → IsKnown v k places marks seen last → IsWord n v.key.places → IsKnown (with_note v h i n) k places marks seen last
-known_noted k places marks seen last v h i n is word =
-    let noted = IsNoted-more v (with_note v h i n) k i n refl is.noted (subst (λ (x : Key). IsWord n x.places) is.same_key word) in
-    assumption
 
 -- the fields after a load of the position
 pub known_located : (k : Key) (places : ℕ) (marks : Marks) (seen : ℕ) (last : Option ℕ) (slots n : ℕ) (m r : Me Entry View)
@@ -61,7 +47,10 @@ known_located k places marks seen last slots n m r is told =
 pub known_looked : (k : Key) (places : ℕ) (marks : Marks) (seen : ℕ) (last : Option ℕ) (slots i n : ℕ) (m r : Me Entry View)
     → IsKnown m.0 k places marks seen last → word_load (step slots i 0 0 none) m n r → IsKnown r.0 k places marks seen last
 known_looked k places marks seen last slots i n m r is told =
-    subst (λ (x : Me Entry View). IsKnown x.0 k places marks seen last) (sym told.1.1) (known_noted k places marks seen last m.0 told.1.0 i n is told.0.word)
+    let word : IsWord n k.places = subst (λ (x : Key). IsWord n x.places) is.same_key told.0.word in
+    let noted = IsNoted-more m.0 (with_note m.0 told.1.0 i n) k i n refl is.noted word in
+    let known : IsKnown (with_note m.0 told.1.0 i n) k places marks seen last = assumption in
+    subst (λ (x : Me Entry View). IsKnown x.0 k places marks seen last) (sym told.1.1) known
 
 -- a seat whose fields, but for its view, are another's
 pub record SameFields (s t : MixSeat) : Type 0 where
@@ -119,20 +108,11 @@ ring_spot_room s f c r is = ap (λ (t : TableId). t.words) (is.table ∙ s.same_
 
 pub ring_spot_looks : (s : MixSeat) (r : RingSpot) (f c : ℕ) → c < s.key.geometry.channels → IsRingSpot s f c r
     → Allows (Exact r.ring.now.key) r.ring.now.table_id.slots s.seat.id s.seat.me r.spot.index (λ n. n) (word_load (step r.ring.now.table_id.slots r.spot.index 0 0 none) s.seat.me)
-ring_spot_looks s r f c in_range is = rw is.key (looks_at s.key r.ring.now.table_id.slots s.seat.id s.seat.me r.spot.index f c s.known.same_key s.known.lasts in_range is.spot.index_is)
+ring_spot_looks s r f c in_range is = rw (is.spot.index_is, is.key, ← s.known.same_key) (looks r.ring.now.table_id.slots s.seat.id s.seat.me f c s.known.lasts (rw s.known.same_key in_range))
 
--- a word that has room for one more sample
-pub record HasRoom (w : ℕ) (sample : ℤ) : Type 0 where
-  pub count : count_of w < 255
-  pub low : negsuc 8388607 ≤ℤ (sum_of w +ℤ sample)
-  pub high : (sum_of w +ℤ sample) ≤ℤ pos 8388607
-
+-- a word has room for one more sample
 pub HasRoom-of : (w most : ℕ) (value : ℤ) → IsWord w most → most ≤ 64 → negsuc 32767 ≤ℤ value → value ≤ℤ pos 32768 → HasRoom w value
-HasRoom-of w most value word few low high = record {
-  count = omega (arith, word.few);
-  low = omega (arith, ints, word.few, word.low, word.high);
-  high = omega (arith, ints, word.few, word.low, word.high);
-}
+HasRoom-of w most value word few low high = grind (arith, nat_tests)
 
 -- what a seat shows before an exchange that adds a sample, or withdraws it
 pub record MayExchange (s : MixSeat) (k : Kind) (f c old : ℕ) (sample : ℤ) : Type 0 where
@@ -145,15 +125,7 @@ pub record MayExchange (s : MixSeat) (k : Kind) (f c old : ℕ) (sample : ℤ) :
 
 -- a seat's last standing add is a sample at a frame and channel that are not before its floor, at its fields
 pub holds_of : (s : MixSeat) (f c : ℕ) (sample : ℤ) → EndsIn (standing (view_of s).laid) (an_add s.member f c sample ∷ []) → IsFrom s.reach.marks.floor f c → HoldsLast (view_of s) f c sample
-holds_of s f c sample ends from = record {
-  early = ends.0;
-  last = an_add s.member f c sample;
-  ends = ends.1;
-  frame = refl;
-  channel = refl;
-  sample = refl;
-  from_floor = subst (λ (m : Marks). IsFrom m.floor f c) (sym s.known.same_marks) from;
-}
+holds_of s f c sample ends from = grind (arith, nat_tests)
 
 -- what a seat knows of it
 pub record HoldsFacts (s : MixSeat) (f c : ℕ) : Type 0 where
@@ -208,10 +180,7 @@ room_there s k f c old sample may = HasRoom-of old s.key.places (signed_sample k
 
 pub to_put : (s : MixSeat) (k : Kind) (f c old new : ℕ) (sample : ℤ) → MayExchange s k f c old sample → StandsFor new (lap_of old) (count_of old + 1) (sum_of old +ℤ signed_sample k sample)
     → MayPut (view_of s) (entry_by s k f c sample) old new
-to_put s k f c old new sample may stands =
-    let channel : c < (view_of s).key.geometry.channels = rw s.known.same_key may.channel in
-    let of_lap : lap_of old ≡ lap (view_of s).key.geometry f = rw s.known.same_key may.of_lap in
-    assumption
+to_put s k f c old new sample may stands = grind (arith, nat_tests)
 
 pub ring_spot_exchanges : (s : MixSeat) (r : RingSpot) (kind : Kind) (f c old new : ℕ) (sample : ℤ) → IsRingSpot s f c r → MayExchange s kind f c old sample → StandsFor new (lap_of old) (count_of old + 1) (sum_of old +ℤ signed_sample kind sample)
     → Allows (Exact r.ring.now.key) r.ring.now.table_id.slots s.seat.id s.seat.me r.spot.index (λ n. either (n == old) new n) (word_exchange (step r.ring.now.table_id.slots r.spot.index old new (some (entry_by s kind f c sample))) s.seat.me)
@@ -220,10 +189,7 @@ ring_spot_exchanges s r kind f c old new sample is may stands =
 
 -- the greatest frame of joined lists
 greater-assoc : (a b c : Option ℕ) → greater (greater a b) c ≡ greater a (greater b c)
-greater-assoc None b c = refl
-greater-assoc (Some x) None c = refl
-greater-assoc (Some x) (Some y) None = refl
-greater-assoc (Some x) (Some y) (Some z) = ap (λ n. Some n) (omega arith)
+greater-assoc a b c = grind (arith, nat_tests)
 
 pub last_frame-append : (xs ys : List Entry) → last_frame (xs ++ ys) ≡ greater (last_frame xs) (last_frame ys)
 last_frame-append [] ys = refl
@@ -255,9 +221,7 @@ within_added g m f c x from fits =
     }
 
 within_withdrawn : (g : Geometry) (m : Marks) (f c : ℕ) → MarksWithin g m → first_frame g ≤ f → lap g f < 4294967295 → MarksWithin g (withdrawn_at m f c)
-within_withdrawn g m f c x least fits =
-    let most : f ≤ end_frame g = omega (arith, suc-le-end_frame g f fits) in
-    assumption
+within_withdrawn g m f c x least fits = grind (arith, nat_tests)
 
 -- what an entry leaves, by its kind
 pub record Leaves (k : Key) (v : View) (e : Entry) : Type 0 where
@@ -318,11 +282,6 @@ has_laid s t e same marks last told =
 pub lost_notes : (slots i old new n : ℕ) (e : Entry) (m r : Me Entry View) → n ≢ old → word_exchange (step slots i old new (some e)) m n r → Finds m.0 i n × Notes m.0 m.1 i n r
 lost_notes slots i old new n e m r other told = (told.0, told.2 other)
 
-pub known_lost : (k : Key) (places : ℕ) (marks : Marks) (seen : ℕ) (last : Option ℕ) (slots i old new n : ℕ) (e : Entry) (m r : Me Entry View)
-    → IsKnown m.0 k places marks seen last → n ≢ old → word_exchange (step slots i old new (some e)) m n r → IsKnown r.0 k places marks seen last
-known_lost k places marks seen last slots i old new n e m r is other told =
-    known_looked k places marks seen last slots i n m r is (lost_notes slots i old new n e m r other told)
-
 pub has_lost : (s t : MixSeat) (slots i f c old new n : ℕ) (e : Entry) → SameFields s t → t.reach.marks ≡ s.reach.marks → t.reach.last ≡ s.reach.last → c < s.key.geometry.channels
     → get_or (view_of s).noted (index_of s.key.geometry f c) None ≡ Some old → i ≡ index_of s.key.geometry f c
     → n ≢ old → word_exchange (step slots i old new (some e)) s.seat.me n t.seat.me → HasLost s t f c old n
@@ -342,9 +301,7 @@ entry_or e (some x) = x
 
 pub won_lays : (slots i old new n : ℕ) (e : Entry) (m r : Me Entry View) → n ≡ old → word_exchange (step slots i old new (some e)) m n r → Lays m.0 m.1 e r
 unfolding entry_or
-won_lays slots i old new n e m r same told =
-    let lays = told.1 same in
-    subst (λ x. Lays m.0 m.1 x r) (sym (ap (entry_or e) lays.1)) lays.2
+won_lays slots i old new n e m r same told = grind (arith, nat_tests)
 
 pub known_won : (k : Key) (places : ℕ) (marks : Marks) (seen : ℕ) (last : Option ℕ) (slots i old new n : ℕ) (e : Entry) (m r : Me Entry View)
     → IsKnown m.0 k places marks seen last → may_put e.kind m.0 e.frame e.channel e.sample
@@ -352,11 +309,6 @@ pub known_won : (k : Key) (places : ℕ) (marks : Marks) (seen : ℕ) (last : Op
 known_won k places marks seen last slots i old new n e m r is may same told =
     let lays : Lays m.0 m.1 e r = won_lays slots i old new n e m r same told in
     subst (λ (x : Me Entry View). IsKnown x.0 k places (marks_after k.geometry marks e) seen (greater last (Some e.frame))) (sym lays.1) (known_laid k places marks seen last m.0 lays.0 e is may)
-
--- the sample is the one that was handed in
-pub has_laid_as : (s t : MixSeat) (k : Kind) (f c : ℕ) (z x : ℤ) → z ≡ x → SameFields s t → t.reach.marks ≡ marks_with k s.key.geometry s.reach.marks f c → t.reach.last ≡ greater s.reach.last (Some f)
-    → Lays s.seat.me.0 s.seat.me.1 (entry_by s k f c z) t.seat.me → HasLaid s t (entry_by s k f c x)
-has_laid_as s t k f c z x is same marks last told = subst (λ y. HasLaid s t (entry_by s k f c y)) is (has_laid s t (entry_by s k f c z) same marks last told)
 
 -- a seat that loaded the position
 pub has_located : (s t : MixSeat) (slots n : ℕ) (p : Position) → t.seat.table_id ≡ s.seat.table_id → t.key ≡ s.key → t.member ≡ s.member → t.places ≡ s.places

@@ -1,7 +1,7 @@
 -- Counts, sums and places of all views together, when one view changes or one more comes.
 use Rattle.sum_table.specs.Prelude.{ap, append_assoc, arith, inl, inr, List, refl, set, subst, suc, sym, zero, ℕ, [], ◌*◌, ◌++◌, ◌+ℤ◌, ◌+◌, ◌∙◌, ◌∷◌, ◌≡◌, ◌≤◌}
-use Rattle.sum_table.specs.Prelude.{cases_Bool, ints, append-nil, get_elem?, some, some-injective, some-ne-none, Entry, total-append, is_at, total, View}
-use Rattle.sum_table.specs.Prelude.{all_laid, by_member, count, SameSums, total_places}
+use Rattle.sum_table.specs.Prelude.{cases_Bool, nat_tests, ints, append-nil, get_elem?, some, some-injective, some-ne-none, Entry, total-append, is_at, total}
+use Rattle.sum_table.specs.Prelude.{View, all_laid, by_member, count, SameSums, total_places}
 pub use Rattle.mix_core.specs.MarkLaws.{count-append}
 
 -- one view changes
@@ -61,10 +61,7 @@ SameSums-set views id v w here same = record {
 }
 
 pub SameSums-joined : (xs ys zs : List Entry) → SameSums xs ys → SameSums ys zs → SameSums xs zs
-SameSums-joined xs ys zs first then = record {
-  counts = λ f c. first.counts f c ∙ then.counts f c;
-  totals = λ f c. first.totals f c ∙ then.totals f c;
-}
+SameSums-joined xs ys zs first then = grind (arith, nat_tests)
 
 -- one view places one more entry
 pub SameSums-put : (views : List View) (id : ℕ) (v w : View) (e : Entry) → get_elem? views id ≡ some v → w.laid ≡ v.laid ++ e ∷ [] → SameSums (all_laid views ++ e ∷ []) (all_laid (set views id w))
@@ -85,7 +82,4 @@ SameSums-more views w none =
 
 -- sums don't show who placed an entry
 pub SameSums-by_member : (m : ℕ) (e : Entry) → SameSums (by_member m e ∷ []) (e ∷ [])
-SameSums-by_member m e = record {
-  counts = λ f c. elim (cases_Bool (is_at f c e)) [ inl here ↦ rw here refl | inr elsewhere ↦ rw elsewhere refl ];
-  totals = λ f c. elim (cases_Bool (is_at f c e)) [ inl here ↦ rw here refl | inr elsewhere ↦ rw elsewhere refl ];
-}
+SameSums-by_member m e = grind (arith, nat_tests)

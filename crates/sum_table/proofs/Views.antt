@@ -58,14 +58,7 @@ views_set k before after views at t u early late id v w a l here places own play
 
 -- nothing but the history changes
 pub Later-same : (g : Geometry) (words : List ℕ) (t : Track) (early late : List Row) → ((h : List Row) → BeginsWith early h → BeginsWith late h) → Later g words words t t early late
-Later-same g words t early late more = record {
-  next = λ c. omega arith;
-  position = omega arith;
-  published = λ p x. x;
-  gone = λ x. x;
-  words = λ i n positive x. x;
-  history = more;
-}
+Later-same g words t early late more = grind (arith, nat_tests)
 
 pub rank-of : (w l c : ℕ) (s : ℤ) → StandsFor w l c s → rank w ≡ l * 256 + c
 rank-of w l c s h = grind (arith, ints)

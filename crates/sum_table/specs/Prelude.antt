@@ -1,7 +1,7 @@
 -- The names that most proofs of this crate cite, passed on from one place. Declares nothing.
-pub use Rattle.std.proofs.Common.{add-one, All, ap, append_assoc, arith, Bool, Err, false, fold, get_or, IfSome, if◌then◌else◌, inl, inr, is_some, length, List}
-pub use Rattle.std.proofs.Common.{map, max, nat_lt, negsuc, None, not, of_z, Ok, Option, pos, refl, Result, rules, set, Some, subst, suc, sym, to_z, true, zero}
-pub use Rattle.std.proofs.Common.{ℕ, ℤ, [], ◌%◌, ◌&&◌, ◌*◌, ◌++◌, ◌+ℤ◌, ◌+◌, ◌-◌, ◌/◌, ◌<◌, ◌==◌, ◌^◌, ◌||◌, ◌∙◌, ◌∷◌, ◌≡◌, ◌≢◌, ◌≤ℤ◌, ◌≤◌, ◌⊎◌}
+pub use Rattle.std.proofs.Common.{add-one, ap, append_assoc, arith, Bool, Err, false, fold, get_or, IfSome, if◌then◌else◌, inl, inr, is_some, length, List, map}
+pub use Rattle.std.proofs.Common.{max, nat_lt, negsuc, None, not, of_z, Ok, Option, pos, refl, Result, rules, set, Some, subst, suc, sym, to_z, true, zero, ℕ}
+pub use Rattle.std.proofs.Common.{ℤ, [], ◌%◌, ◌&&◌, ◌*◌, ◌++◌, ◌+ℤ◌, ◌+◌, ◌-◌, ◌<◌, ◌==◌, ◌^◌, ◌||◌, ◌∙◌, ◌∷◌, ◌≡◌, ◌≢◌, ◌≤ℤ◌, ◌≤◌, ◌⊎◌}
 pub use Rattle.std.proofs.Math.ListN.{replicate}
 pub use Rattle.std.proofs.Math.Nat.{add-div_right, mod-lt}
 pub use Rattle.std.proofs.lemmas.Bool.{cases_Bool, cases_eq, cases_lt, false≢true, or_right}
@@ -39,15 +39,15 @@ pub use Rattle.mix_core.specs.History.{AreExact, AreInOrder, AreReplies, entry_o
 pub use Rattle.mix_core.specs.History.{next_to_take, position_after, position_of, Row, taken_words, taking_of}
 pub use Rattle.mix_core.specs.HistoryLaws.{entry_of-late, laid_of-append_published, laid_of-append_rows, laid_of-append_took, position_after-row}
 pub use Rattle.mix_core.specs.HistoryLaws.{taken_words-append_published, taken_words-append_rows, taken_words-append_took, taking_of-row, total-append}
-pub use Rattle.mix_core.specs.Laid.{an_add, AreAdds, at, cursor_of, EndsIn, is_at, last_entry, marks_after, marks_by, marks_of, marks_with, signed_sample}
-pub use Rattle.mix_core.specs.Laid.{stand_after, standing, standing_of, standing_with, sum_of_samples, total, value_of, without_last}
+pub use Rattle.mix_core.specs.Laid.{an_add, at, cursor_of, EndsIn, is_at, last_entry, marks_after, marks_by, marks_of, marks_with, signed_sample, stand_after}
+pub use Rattle.mix_core.specs.Laid.{standing, standing_of, standing_with, sum_of_samples, total, value_of, without_last}
 pub use Rattle.mix_core.specs.LegalLaws.{cursor_of-least, first_frame-le, IsLegal-more, lap-taken}
 pub use Rattle.mix_core.specs.MarkLaws.{behind_up, count-append, count-elsewhere, count-here, Each, Each-append, Each-of, Each-right, free_after}
 pub use Rattle.mix_core.specs.MarkLaws.{IsBeforeCursor, IsHolding, IsHolding-add, IsHolding-last, IsHolding-withdraw, IsMarked-add, IsMarked-withdraw}
 pub use Rattle.mix_core.specs.MarkLaws.{later_up_to, place_cases, standing-each, up_to_later, without_last-more}
 pub use Rattle.mix_core.specs.Marks.{added_at, high_frame, is_before, last_before, later_of, start_marks, start_of, withdrawn_at}
 pub use Rattle.mix_core.specs.OwnLaws.{last_entry-more, marks_by-more, own-more, own-more_other, standing-more}
-pub use Rattle.mix_core.specs.Port.{ended_of, IsAskNumber, load_of, Loads, marks_if, OnLate, OnWhole, PortView, Stays}
+pub use Rattle.mix_core.specs.Port.{ended_of, load_of, Loads, OnWhole, PortView, Stays}
 pub use Rattle.mix_core.specs.Sound.{IsNow}
 pub use Rattle.mix_core.specs.Written.{HasPlaces, IsNow-next, now_of, words-taken, words-written}
 pub use Rattle.ring_rule.specs.Lists.{at_append, at_only, at_second}
@@ -67,9 +67,9 @@ pub use Rattle.sum_table.specs.Extent.{Extent}
 pub use Rattle.sum_table.specs.Known.{free_from, greater, IsKnown, IsNoted, IsPlayer, IsReach, last_frame}
 pub use Rattle.sum_table.specs.Laid.{all_laid, by_member, count, own_entries, SameSums, total_places}
 pub use Rattle.sum_table.specs.Players.{HasTaken, IsTurnedPlayer, player_view, track_of}
-pub use Rattle.sum_table.specs.Seats.{CanAdd, entry_by, HasLaid, HasLocated, HasLost, HasNoted, IsLaterSeat, IsLaterSeat-joined, IsLaterSeat-same, IsRingSpot}
-pub use Rattle.sum_table.specs.Seats.{IsTurned, LaysCounted, MakesIn, MakesLate, MayLay, noted_word, NotesRise, NotesRise-same, or_false, pass_count, seat_view}
-pub use Rattle.sum_table.specs.Seats.{SeatEndsIn, SeatEndsIn-laid, SeatFinds, SeatLaid, SeatLaid-composes, SeatLays, SeatLoaded, SeatLoaded-composes, view_of}
+pub use Rattle.sum_table.specs.Seats.{entry_by, HasLaid, HasLocated, HasLost, HasNoted, IsLaterSeat, IsLaterSeat-joined, IsLaterSeat-same, IsRingSpot, IsTurned}
+pub use Rattle.sum_table.specs.Seats.{LaysCounted, MakesIn, MakesLate, MayLay, noted_word, NotesRise, NotesRise-same, pass_count, seat_view, SeatEndsIn}
+pub use Rattle.sum_table.specs.Seats.{SeatEndsIn-laid, SeatLaid, SeatLaid-composes, SeatLays, SeatLoaded, SeatLoaded-composes, view_of}
 pub use Rattle.sum_table.specs.Steps.{Finds, HoldsLast, in_row, IsLateAt, IsLateHeld, IsStep, IsSumOf, IsWord, Knows, Lays, Makes, MakesLook, MayStand}
 pub use Rattle.sum_table.specs.Steps.{next_taken, Notes, position_load, position_store, quiet_load, sighting, Tells, track_gone, track_published, track_taken}
 pub use Rattle.sum_table.specs.Steps.{unplug_store, with_entry, with_gone, with_history, with_note, with_position, with_published, with_taken}

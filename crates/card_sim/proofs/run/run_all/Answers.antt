@@ -8,28 +8,23 @@ use Rattle.card_sim.proofs.Watching.{position_of_writer-captured, saw-ended, saw
 use Rattle.card_sim.proofs.run.run_all.Goals as goal
 
 -- a frame's samples are among those of all frames
-frame_within : (frame frames channels there n : ℕ) → frame < frames → there ≡ channels → frames * channels ≤ n → frame * channels + there ≤ n
-frame_within frame frames channels there n before same holds =
-    omega (arith, same, holds, mul-le (frame + 1) channels frames channels (omega (arith, before)) (omega arith))
-
--- the number of channels is the same throughout
-same_channels : (p q : CardPlayer) (period n : ℕ) (old new : List ℤ) → HasFilled (seat_of p) (seat_of q) period n old new → (geometry_of q).channels ≡ (geometry_of p).channels
-same_channels p q period n old new filled = ap (λ (k : Key). k.geometry.channels) filled.played.goes.key
+frame_within : (p q : CardPlayer) (period frame frames channels n : ℕ) (old new : List ℤ) → HasFilled (seat_of p) (seat_of q) period frame old new → frame < frames
+    → channels ≡ (geometry_of p).channels → frames * (geometry_of p).channels ≤ n → frame * channels + (geometry_of q).channels ≤ n
+frame_within p q period frame frames channels n old new filled before is holds =
+    let same : (geometry_of q).channels ≡ channels = ap (λ (k : Key). k.geometry.channels) filled.played.goes.key ∙ sym is in
+    let all : frames * channels ≤ n = rw is holds in
+    omega (arith, same, all, mul-le (frame + 1) channels frames channels (omega (arith, before)) (omega arith))
 
 pub run_frame-requires-clause-captured : goal.run_frame-requires-clause-captured
 run_frame-requires-clause-captured g c =
-    let filled = c.loop-frame.invariant.filled in
-    frame_within c.loop-frame.frame c.args.frames c.args.channels (geometry_of c.loop-frame.player).channels (length c.args.captured.now) c.loop-frame-test.true
-    (same_channels c.args.player.now c.loop-frame.player _ _ _ _ filled ∙ sym c.requires.channels)
-    (subst (λ (n : ℕ). c.args.frames * n ≤ length c.args.captured.now) (sym c.requires.channels) c.requires.can_run.captured_holds)
+    frame_within c.args.player.now c.loop-frame.player _ c.loop-frame.frame c.args.frames c.args.channels (length c.args.captured.now) _ _ c.loop-frame.invariant.filled
+    c.loop-frame-test.true c.requires.channels c.requires.can_run.captured_holds
 
 pub run_frame-requires-clause-room : goal.run_frame-requires-clause-room
 run_frame-requires-clause-room g c =
-    let filled = c.loop-frame.invariant.filled in
     subst (λ (n : ℕ). c.loop-frame.frame * c.args.channels + (geometry_of c.loop-frame.player).channels ≤ n) (sym c.loop-frame.auto.out)
-    (frame_within c.loop-frame.frame c.args.frames c.args.channels (geometry_of c.loop-frame.player).channels (length c.args.out.now) c.loop-frame-test.true
-    (same_channels c.args.player.now c.loop-frame.player _ _ _ _ filled ∙ sym c.requires.channels)
-    (subst (λ (n : ℕ). c.args.frames * n ≤ length c.args.out.now) (sym c.requires.channels) c.requires.can_run.out_holds))
+    (frame_within c.args.player.now c.loop-frame.player _ c.loop-frame.frame c.args.frames c.args.channels (length c.args.out.now) _ _ c.loop-frame.invariant.filled
+    c.loop-frame-test.true c.requires.channels c.requires.can_run.out_holds)
 
 -- the ring has a frame more
 frame_left : (at first frame frames end_then end : ℕ) → at ≡ first + frame → frame < frames → first + frames ≤ end → end_then ≡ end → at < end_then

@@ -1,35 +1,16 @@
--- Where the mask has no number left, nothing lies within.
-use Rattle.hw_space.specs.Prelude.{ap, subst, ◌∙◌, err_from_is_err_and, Mask, common_mask, ParamBox, with_format, IsLeft, IsVoid}
-use Rattle.hw_space.proofs.NarrowingLaws.{with_format-IsVoid, with_format-IsProper}
-use Rattle.hw_space.proofs.Results.{Leaves-err, OnOk-err}
-use Rattle.hw_space.proofs.StepLaws.{IsLeft-step}
+-- Where the mask has no number left, nothing lies within; else the narrowed box is settled.
+use Rattle.hw_space.specs.Prelude.{ap, sym, ◌∙◌, err_from_is_err_and, common_mask, with_format, mask_of_one}
+use Rattle.hw_space.proofs.Results.{Leaves-err}
+use Rattle.hw_space.proofs.StepLaws.{IsVoid-formats, with_formats-IsProper}
 use Rattle.hw_space.proofs.narrowing.take_format.Goals as goal
 
 pub returns-in_err-narrow_format-clause-left : goal.returns-in_err-narrow_format-clause-left
 returns-in_err-narrow_format-clause-left c =
     let p = err_from_is_err_and c.from_residual.result c.from_residual.ensures.1 in
     Leaves-err (with_format c.args.ranges.now c.args.number) c.narrow_format.new.ranges c.from_residual.result p.0 p.1
-    (with_format-IsVoid c.args.ranges.now c.args.number c.only.result c.only.ensures c.in_err-narrow_format.ensures.empty)
+    (IsVoid-formats c.args.ranges.now (mask_of_one c.args.number)
+    (ap (λ x. (common_mask c.args.ranges.now.format x).bits) (sym c.only.ensures) ∙ c.in_err-narrow_format.ensures.empty))
 
 pub settle-requires : goal.settle-requires
 settle-requires c =
-    with_format-IsProper c.args.ranges.now c.narrow_format.new.ranges c.only.result c.requires.proper
-    c.in_ok-narrow_format.ensures.ok c.in_ok-narrow_format.ensures.filled
-
-pub returns-in_err-narrow_format-clause-proper : goal.returns-in_err-narrow_format-clause-proper
-returns-in_err-narrow_format-clause-proper c = OnOk-err _ _ c.from_residual.result c.from_residual.ensures.1
-
-pub returns-in_err-settle-clause-left : goal.returns-in_err-settle-clause-left
-returns-in_err-settle-clause-left c =
-    let p = err_from_is_err_and c.from_residual-in_err-settle.result c.from_residual-in_err-settle.ensures.1 in
-    Leaves-err (with_format c.args.ranges.now c.args.number) c.settle.new.ranges c.from_residual-in_err-settle.result p.0 p.1 (subst (λ (b : ParamBox). IsVoid b) (c.in_ok-narrow_format.ensures.ok ∙ ap (λ (m : Mask). let b : ParamBox = record c.args.ranges.now { format = common_mask c.args.ranges.now.format m } in b) c.only.ensures) c.in_err-settle.ensures.empty)
-
-pub returns-in_err-settle-clause-proper : goal.returns-in_err-settle-clause-proper
-returns-in_err-settle-clause-proper c = OnOk-err _ _ c.from_residual-in_err-settle.result c.from_residual-in_err-settle.ensures.1
-
-pub returns-clause-left : goal.returns-clause-left
-returns-clause-left c =
-    subst (λ (b : ParamBox). IsLeft b c.settle.new.ranges) (c.in_ok-narrow_format.ensures.ok ∙ ap (λ (m : Mask). let b : ParamBox = record c.args.ranges.now { format = common_mask c.args.ranges.now.format m } in b) c.only.ensures) (IsLeft-step c.narrow_format.new.ranges c.settle.new.ranges c.in_ok-settle.field-0 c.in_ok-settle.ensures.step c.in_ok-settle.ensures.settled)
-
-pub returns-clause-proper : goal.returns-clause-proper
-returns-clause-proper c = c.in_ok-settle.ensures.step.proper
+    rw c.in_ok-narrow_format.ensures.ok (with_formats-IsProper c.args.ranges.now c.only.result c.requires.proper c.in_ok-narrow_format.ensures.filled)

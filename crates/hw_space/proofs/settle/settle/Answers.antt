@@ -6,5 +6,4 @@ use Rattle.hw_space.proofs.settle.settle.Goals as goal
 pub loop-changed-preserved : goal.loop-changed-preserved
 loop-changed-preserved c =
     let moved : IsBoxStep c.loop-changed.ranges c.pass.new.ranges c.in_ok-pass.field-0 = c.in_ok-pass.ensures.step in
-    IsBoxStep-moved c.args.ranges.now c.loop-changed.ranges c.pass.new.ranges c.loop-changed.changed c.in_ok-pass.field-0
-    c.loop-changed.invariant moved c.if-branch.true
+    IsBoxStep-moved c.loop-changed.changed c.loop-changed.invariant moved c.if-branch.true

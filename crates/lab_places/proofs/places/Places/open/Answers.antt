@@ -14,12 +14,12 @@ returns-then-is_err-clause-opens c number held held_by =
     let granted = subst (λ (n : ℕ). IsClaimed (share_of c.args.self.now) held.claims c.args.bindings.now n (Ok c.in_ok-claim.field-0) (shares_of c.claim.new.self)) c.position.ensures.value
     (c.in_ok-claim.ensures.claims held.claims held_by.claims) in
     Opens-undone (share_of c.args.self.now) number c.args.bindings.now _ held c.attach-attached.result c.attach-attached.new.self _ refl (sym c.is_err.ensures.value ∙ c.if-is_err.true)
-    granted.0 (c.attach-attached.ensures.attaches number held.lobby (IsLobby-same c.args.self.now c.claim.new.self held.lobby c.claim.ensures.same held_by.lobby)) held_by.claims
+    granted.0 (c.attach-attached.ensures.attaches number held.lobby (IsLobby-same c.args.self.now c.claim.new.self held.lobby c.claim.ensures.same.lobby held_by.lobby)) held_by.claims
 
 pub returns-else-is_err-clause-opens : goal.returns-else-is_err-clause-opens
 returns-else-is_err-clause-opens c number held held_by =
     let granted = subst (λ (n : ℕ). IsClaimed (share_of c.args.self.now) held.claims c.args.bindings.now n (Ok c.in_ok-claim.field-0) (shares_of c.claim.new.self)) c.position.ensures.value
     (c.in_ok-claim.ensures.claims held.claims held_by.claims) in
     Opens-attached (share_of c.args.self.now) number c.args.bindings.now _ held c.attach-attached.result c.attach-attached.new.self (sym c.is_err.ensures.value ∙ c.if-is_err.false)
-    granted.0 (c.attach-attached.ensures.attaches number held.lobby (IsLobby-same c.args.self.now c.claim.new.self held.lobby c.claim.ensures.same held_by.lobby))
+    granted.0 (c.attach-attached.ensures.attaches number held.lobby (IsLobby-same c.args.self.now c.claim.new.self held.lobby c.claim.ensures.same.lobby held_by.lobby))
     (subst (λ v. StandsFor v (with_claim (share_of c.args.self.now) c.args.bindings.now held.claims)) (sym c.attach-attached.ensures.shares) granted.1)

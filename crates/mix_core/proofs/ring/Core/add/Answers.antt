@@ -5,39 +5,18 @@ use Rattle.mix_core.proofs.Laying.{CanLay, can_add, laid, marks_is, stands_by, v
 use Rattle.mix_core.proofs.Soundness.{HasRoom, IsSound-laid, room-laid}
 use Rattle.mix_core.proofs.ring.Core.add.Goals as goal
 
-pub add-requires-clause-room : goal.add-requires-clause-room
-add-requires-clause-room c =
+pub add-requires : goal.add-requires
+add-requires c =
     let v : View = the_view c.self.inside in
     let e = c.args.entry in
     let sample : SFits w16 e.sample = search rules in
     let can : CanLay v e = can_add v c.args.self.now e c.self.view_is c.self.invariant sample c.requires.kind c.requires.member c.requires.channel c.requires.from_cursor c.requires.untaken c.requires.ahead c.requires.lap_fits in
     let within : c.word_index-at.result < length v.words = search rules in
     let word : c.index-word.result.now ≡ word_at v e.frame e.channel = word_is v _ _ e.frame e.channel c.index-word.ensures c.word_index-at.ensures.value within in
-    subst (λ w. count_of w < 255) (sym word) (room-laid v e c.self.invariant can.member can.now can.more can.low can.high).count
-
-pub add-requires-clause-sum_low : goal.add-requires-clause-sum_low
-add-requires-clause-sum_low c =
-    let v : View = the_view c.self.inside in
-    let e = c.args.entry in
-    let sample : SFits w16 e.sample = search rules in
-    let can : CanLay v e = can_add v c.args.self.now e c.self.view_is c.self.invariant sample c.requires.kind c.requires.member c.requires.channel c.requires.from_cursor c.requires.untaken c.requires.ahead c.requires.lap_fits in
-    let within : c.word_index-at.result < length v.words = search rules in
-    let word : c.index-word.result.now ≡ word_at v e.frame e.channel = word_is v _ _ e.frame e.channel c.index-word.ensures c.word_index-at.ensures.value within in
-    let room : HasRoom (word_at v e.frame e.channel) (value_of e) = room-laid v e c.self.invariant can.member can.now can.more can.low can.high in
-    let low : negsuc 8388607 ≤ℤ (sum_of (word_at v e.frame e.channel) +ℤ e.sample) = omega (arith, ints, room.low, value_by Added e c.requires.kind) in
-    simp to_z-of_z (subst (λ w. negsuc 8388607 ≤ℤ (sum_of w +ℤ e.sample)) (sym word) low)
-
-pub add-requires-clause-sum_high : goal.add-requires-clause-sum_high
-add-requires-clause-sum_high c =
-    let v : View = the_view c.self.inside in
-    let e = c.args.entry in
-    let sample : SFits w16 e.sample = search rules in
-    let can : CanLay v e = can_add v c.args.self.now e c.self.view_is c.self.invariant sample c.requires.kind c.requires.member c.requires.channel c.requires.from_cursor c.requires.untaken c.requires.ahead c.requires.lap_fits in
-    let within : c.word_index-at.result < length v.words = search rules in
-    let word : c.index-word.result.now ≡ word_at v e.frame e.channel = word_is v _ _ e.frame e.channel c.index-word.ensures c.word_index-at.ensures.value within in
-    let room : HasRoom (word_at v e.frame e.channel) (value_of e) = room-laid v e c.self.invariant can.member can.now can.more can.low can.high in
-    let high : (sum_of (word_at v e.frame e.channel) +ℤ e.sample) ≤ℤ pos 8388607 = omega (arith, ints, room.high, value_by Added e c.requires.kind) in
-    simp to_z-of_z (subst (λ w. (sum_of w +ℤ e.sample) ≤ℤ pos 8388607) (sym word) high)
+    let room : HasRoom c.index-word.result.now (value_of e) = rw word (room-laid v e c.self.invariant can.member can.now can.more can.low can.high) in
+    let low : negsuc 8388607 ≤ℤ (sum_of c.index-word.result.now +ℤ e.sample) = omega (arith, ints, room.low, value_by Added e c.requires.kind) in
+    let high : (sum_of c.index-word.result.now +ℤ e.sample) ≤ℤ pos 8388607 = omega (arith, ints, room.high, value_by Added e c.requires.kind) in
+    record { room = room.count; sum_low = simp to_z-of_z low; sum_high = simp to_z-of_z high }
 
 pub invariant_of-self : goal.invariant_of-self
 invariant_of-self c =

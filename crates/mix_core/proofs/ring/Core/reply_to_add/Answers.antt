@@ -1,6 +1,5 @@
-use Rattle.mix_core.specs.Prelude.{ap, None, Option, refl, Some, sym, true, ℕ, ◌<◌, ◌∙◌, ◌≡◌, false≢true, is_some, MatchOption, first_free, IsLateWord}
-use Rattle.mix_core.specs.Prelude.{IsUntaken, MayAdd, View}
-use Rattle.mix_core.proofs.Replies.{IsReplied-late, IsReplied-outside, IsReplied-added}
+use Rattle.mix_core.specs.Prelude.{ap, refl, Some, sym, true, ◌<◌, ◌∙◌, false≢true, is_some, first_free, MayAdd}
+use Rattle.mix_core.proofs.Replies.{IsReplied-late, IsReplied-outside, IsReplied-added, late-taken}
 use Rattle.mix_core.proofs.Standing.{answered-other, keeps-add, keeps-nothing}
 use Rattle.mix_core.proofs.ring.Core.reply_to_add.Goals as goal
 
@@ -10,16 +9,11 @@ returns-then-not-may_add-clause-answer c =
     (IsReplied-outside c.args.self.now c.args.entry (λ may. absurd (false≢true (sym c.if-not-may_add.true ∙ c.may_add.ensures.1 may))))
     (λ rows keeps. keeps-nothing _ rows _ refl keeps)
 
--- a word that was seen was taken
-taken : (v : View) (f c : ℕ) (o : Option ℕ) → is_some o ≡ true → MatchOption o (IsUntaken v f c) (λ word. IsLateWord v f c word) → f < first_free v.next c
-taken v f c None some seen = cc
-taken v f c (Some word) some seen = seen.taken
-
 pub returns-then-is_some-clause-answer : goal.returns-then-is_some-clause-answer
 returns-then-is_some-clause-answer c =
     let may : MayAdd c.args.self.now c.args.entry = c.may_add.ensures.0 c.if-not-may_add.false in
     let late : c.args.entry.frame < first_free c.args.self.now.next c.args.entry.channel =
-    taken c.args.self.now c.args.entry.frame c.args.entry.channel c.late_word.result (sym c.is_some.ensures ∙ c.if-is_some.true) c.late_word.ensures in
+    late-taken c.args.self.now c.args.entry.frame c.args.entry.channel c.late_word.result (sym c.is_some.ensures ∙ c.if-is_some.true) c.late_word.ensures in
     answered-other _ _ _ _ _ _ tt (IsReplied-late c.args.self.now c.args.entry c.requires.kind may late) (λ rows keeps. keeps-nothing _ rows _ refl keeps)
 
 pub returns-clause-answer : goal.returns-clause-answer

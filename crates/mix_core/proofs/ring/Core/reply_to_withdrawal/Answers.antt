@@ -1,5 +1,6 @@
-use Rattle.mix_core.specs.Prelude.{ap, get_or, List, None, Option, Some, subst, sym, true, ℕ, [], ◌<◌, ◌∙◌, ◌≡◌, false≢true, is_some, MatchOption, first_free}
-use Rattle.mix_core.specs.Prelude.{Entry, Kind, IsLaidBy, own_entries, IsLastOf, MayWithdraw, IsLateWord, IsUntaken, View}
+use Rattle.mix_core.specs.Prelude.{ap, get_or, List, subst, sym, true, ℕ, [], ◌∙◌, ◌≡◌, false≢true, is_some, Entry, Kind, IsLaidBy, own_entries, IsLastOf}
+use Rattle.mix_core.specs.Prelude.{MayWithdraw}
+use Rattle.mix_core.proofs.Replies.{late-taken}
 use Rattle.mix_core.proofs.Standing.{AtLast, answered-in, answered-late, answered-none, answered-outside, at_last}
 use Rattle.mix_core.proofs.ring.Core.reply_to_withdrawal.Goals as goal
 
@@ -18,11 +19,6 @@ returns-then-not-may_withdraw-clause-answer c =
     (at_read _ _ _ _ _ c.deref.ensures.value c.in-Some.ensures c.index.ensures)
     (λ may. absurd (false≢true (sym c.if-not-may_withdraw.true ∙ c.may_withdraw.ensures.1 may)))
 
--- a word that was seen was taken
-taken : (v : View) (f c : ℕ) (o : Option ℕ) → is_some o ≡ true → MatchOption o (IsUntaken v f c) (λ word. IsLateWord v f c word) → f < first_free v.next c
-taken v f c None some seen = cc
-taken v f c (Some word) some seen = seen.taken
-
 as_withdrawal : (e : Entry) (k : Kind) → e.kind ≡ k → e ≡ record { member = e.member; frame = e.frame; channel = e.channel; sample = e.sample; kind = k }
 as_withdrawal e k is = ap (λ x. record { member = e.member; frame = e.frame; channel = e.channel; sample = e.sample; kind = x }) is
 
@@ -31,7 +27,7 @@ returns-then-is_some-clause-answer c =
     answered-late c.args.self.now c.args.standing.now.items c.args.entry.member c.args.entry.frame c.args.entry.channel c.args.entry.sample c.index.result.now c.in-Some.last
     (at_read _ _ _ _ _ c.deref.ensures.value c.in-Some.ensures c.index.ensures)
     (subst (λ e. MayWithdraw c.args.self.now e c.index.result.now) (as_withdrawal c.args.entry _ c.requires) (c.may_withdraw.ensures.0 c.if-not-may_withdraw.false))
-    (taken c.args.self.now c.args.entry.frame c.args.entry.channel c.late_word.result (sym c.is_some.ensures ∙ c.if-is_some.true) c.late_word.ensures)
+    (late-taken c.args.self.now c.args.entry.frame c.args.entry.channel c.late_word.result (sym c.is_some.ensures ∙ c.if-is_some.true) c.late_word.ensures)
 
 pub returns-clause-answer : goal.returns-clause-answer
 returns-clause-answer c =

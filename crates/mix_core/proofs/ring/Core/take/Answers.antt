@@ -1,22 +1,16 @@
-use Rattle.mix_core.specs.Prelude.{ap, arith, get_or, length, List, pos, refl, rules, subst, sym, ℕ, ℤ, ◌*◌, ◌+◌, ◌<◌, ◌∙◌, ◌≡◌, ◌≢◌, ◌≤◌, div-lt_iff_lt-mul}
-use Rattle.mix_core.specs.Prelude.{to_z-of_z, get_or_read, w16, w32, SFits, Geometry, end_frame, lap, word_index, clamp_of, lap_of, StandsFor, StandsFor-fields}
-use Rattle.mix_core.specs.Prelude.{sum_of, IsRefused, IsTaken, laid_of, Row, total, IsSound, RepresentsHistory, View, word_at, IsNow-next}
+use Rattle.mix_core.specs.Prelude.{ap, arith, length, List, pos, refl, rules, subst, sym, ℕ, ℤ, ◌+◌, ◌<◌, ◌∙◌, ◌≡◌, ◌≢◌, ◌≤◌, nat_tests, to_z-of_z, w16, w32}
+use Rattle.mix_core.specs.Prelude.{SFits, Geometry, end_frame, lap, clamp_of, lap_of, StandsFor, StandsFor-fields, sum_of, IsTaken, laid_of, Row, total}
+use Rattle.mix_core.specs.Prelude.{IsSound, RepresentsHistory, View, word_at, IsNow-next}
 use Rattle.mix_core.specs.contracts.ring.Core.{the_view}
 use Rattle.mix_core.proofs.Agreement.{taken_view}
 use Rattle.mix_core.proofs.History.{RepresentsHistory-refused, RepresentsHistory-taken}
+use Rattle.mix_core.proofs.Laying.{word_is}
 use Rattle.mix_core.proofs.Soundness.{IsSound-taken}
 use Rattle.mix_core.proofs.ring.Core.take.Goals as goal
 
 -- no frame up to the end has a lap past the last
 lap-le : (g : Geometry) (f : ℕ) → f ≤ end_frame g → lap g f ≤ 4294967295
-lap-le g f within =
-    let some : 0 < g.frames = omega (arith, g.frames_least) in
-    let below : f < 4294967296 * g.frames = omega (arith, g.frames_least) in
-    let fits : lap g f < 4294967296 = (div-lt_iff_lt-mul some).1 below in
-    omega arith
-
-refused : (v : View) → lap v.geometry v.next.frame ≡ 4294967295 → IsRefused v v
-refused v last = record { same = refl; stands = λ h. RepresentsHistory-refused v h last }
+lap-le g f within = grind (arith, nat_tests)
 
 taken : (v : View) (word : ℕ) (value : ℤ) → IsSound v → lap v.geometry v.next.frame ≢ 4294967295
     → StandsFor word (lap_of (word_at v v.next.frame v.next.channel) + 1) 0 (pos 0)
@@ -37,18 +31,17 @@ taken v word value s more stands value_is =
       stands = λ h st. RepresentsHistory-taken v h word value s more stands (value_of h st) st;
     }
 
--- what was read is the word there
-word_is : (v : View) (i w : ℕ) → w ≡ get_or v.words i w → i ≡ word_index v.geometry v.next.frame v.next.channel → i < length v.words → w ≡ word_at v v.next.frame v.next.channel
-word_is v i w read index within = subst (λ k. w ≡ get_or v.words k 0) index (get_or_read v.words i w within read 0)
-
 pub returns-then-lap-eq4294967295-clause-err : goal.returns-then-lap-eq4294967295-clause-err
-returns-then-lap-eq4294967295-clause-err c = rw (← c.self.view_is) (refused (the_view c.self.inside) (sym c.lap.ensures ∙ c.if-lap-eq4294967295.true))
+returns-then-lap-eq4294967295-clause-err c = rw (← c.self.view_is) (record {
+  same = refl;
+  stands = λ h. RepresentsHistory-refused (the_view c.self.inside) h (sym c.lap.ensures ∙ c.if-lap-eq4294967295.true);
+})
 
 pub taken-requires : goal.taken-requires
 taken-requires c =
     let v : View = the_view c.self.inside in
     let within : c.word_index-at.result < length v.words = search rules in
-    let word : c.index-word.result.now ≡ word_at v v.next.frame v.next.channel = word_is v _ _ c.index-word.ensures c.word_index-at.ensures.value within in
+    let word : c.index-word.result.now ≡ word_at v v.next.frame v.next.channel = word_is v _ _ v.next.frame v.next.channel c.index-word.ensures c.word_index-at.ensures.value within in
     let of_lap : lap_of (word_at v v.next.frame v.next.channel) ≡ lap v.geometry v.next.frame = (c.self.invariant.words_now v.next.frame v.next.channel (IsNow-next v.geometry v.next c.self.invariant.next_channel)).of_lap in
     let most : lap v.geometry v.next.frame ≤ 4294967295 = lap-le v.geometry v.next.frame c.self.invariant.next_most in
     let other : lap v.geometry v.next.frame ≢ 4294967295 = λ e. c.if-lap-eq4294967295.false (c.lap.ensures ∙ e) in
@@ -59,7 +52,7 @@ pub invariant_of-self : goal.invariant_of-self
 invariant_of-self c =
     let v : View = the_view c.self.inside in
     let within : c.word_index-at.result < length v.words = search rules in
-    let word : c.index-word.result.now ≡ word_at v v.next.frame v.next.channel = word_is v _ _ c.index-word.ensures c.word_index-at.ensures.value within in
+    let word : c.index-word.result.now ≡ word_at v v.next.frame v.next.channel = word_is v _ _ v.next.frame v.next.channel c.index-word.ensures c.word_index-at.ensures.value within in
     let most : lap v.geometry v.next.frame ≤ 4294967295 = lap-le v.geometry v.next.frame c.self.invariant.next_most in
     let other : lap v.geometry v.next.frame ≢ 4294967295 = λ e. c.if-lap-eq4294967295.false (c.lap.ensures ∙ e) in
     let fits : lap v.geometry v.next.frame < 4294967295 = omega (arith, most, other) in
@@ -70,7 +63,7 @@ pub returns-clause-ok : goal.returns-clause-ok
 returns-clause-ok c =
     let v : View = the_view c.self.inside in
     let within : c.word_index-at.result < length v.words = search rules in
-    let word : c.index-word.result.now ≡ word_at v v.next.frame v.next.channel = word_is v _ _ c.index-word.ensures c.word_index-at.ensures.value within in
+    let word : c.index-word.result.now ≡ word_at v v.next.frame v.next.channel = word_is v _ _ v.next.frame v.next.channel c.index-word.ensures c.word_index-at.ensures.value within in
     let other : lap v.geometry v.next.frame ≢ 4294967295 = λ e. c.if-lap-eq4294967295.false (c.lap.ensures ∙ e) in
     let stands = subst (λ w. StandsFor c.taken.result (lap_of w + 1) 0 (pos 0)) word c.taken.ensures.stands in
     let sum_fits : SFits w32 c.sum.result = search rules in

@@ -1,10 +1,9 @@
-use Rattle.sum_table.specs.Prelude.{refl, subst, sym, to_z-of_z, w16, Added, Stays, seat_view, SeatLaid, SeatLaid-composes, SeatLoaded, SeatLoaded-composes}
-use Rattle.sum_table.proofs.Placing.{lays_as}
+use Rattle.sum_table.specs.Prelude.{refl, subst, sym, to_z-of_z, w16, Stays, seat_view, SeatLaid, SeatLaid-composes, SeatLoaded, SeatLoaded-composes}
 use Rattle.sum_table.proofs.port.MixSeatMixPort.place.Goals as goal
 
 pub returns-clause-step : goal.returns-clause-step
 returns-clause-step g c =
-    λ fits. lays_as g.G.Gate.stops g.G.Gate.asked c.args.self.now _ _ _ Added c.args.frame c.args.channel _ c.args.sample _ (to_z-of_z w16 c.args.sample c.ranges.sample) (c.place_at.ensures.step fits)
+    λ fits. rw (to_z-of_z w16 c.args.sample c.ranges.sample) at (c.place_at.ensures.step fits)
 
 pub returns-clause-unchanged : goal.returns-clause-unchanged
 returns-clause-unchanged g c =

@@ -1,5 +1,5 @@
 use Rattle.sum_table.specs.Prelude.{ap, set, ◌∙◌, ◌≡◌, replicate, words_of}
-use Rattle.sum_table.proofs.Opens.{new_words, opens_at}
+use Rattle.sum_table.proofs.Opens.{new_words, opens}
 use Rattle.sum_table.proofs.ring.SumRing.new.Goals as goal
 
 pub of_words-requires : goal.of_words-requires
@@ -7,4 +7,4 @@ of_words-requires c =
     let items : c.in_ok-words.words.items ≡ replicate (words_of c.args.geometry) c.pack-silent.result = c.in_ok-words.ensures.items_if_clones_equal (λ _ e. e) in
     let words : c.as_slice.result.now ≡ new_words c.args.geometry c.pack-silent.result =
     c.as_slice.ensures.value ∙ (ap (λ l. set l 0 c.position_word.result) items ∙ ap (set (replicate (words_of c.args.geometry) c.pack-silent.result) 0) (c.position_word.ensures ∙ c.first_frame.ensures)) in
-    opens_at _ c.pack-silent.result _ words c.pack-silent.ensures.stands
+    rw words (opens _ c.pack-silent.result c.pack-silent.ensures.stands)

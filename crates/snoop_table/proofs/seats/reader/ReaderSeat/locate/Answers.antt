@@ -1,11 +1,12 @@
 use Rattle.snoop_table.specs.Prelude.{ap, arith, refl, subst, sym, ◌∙◌, Me, View, IsReader}
-use Rattle.snoop_table.proofs.Reading.{has_located, known_located, may_locate}
+use Rattle.snoop_table.proofs.Keeps.{locates}
+use Rattle.snoop_table.proofs.Reading.{has_located, known_located}
 use Rattle.snoop_table.proofs.seats.reader.ReaderSeat.locate.Goals as goal
 
 pub load-word-requires : goal.load-word-requires
 load-word-requires c =
     let s = c.args.self.now in
-    (s.same_ring.0, omega (arith, s.same_ring.3), may_locate s _)
+    (s.same_ring.0, omega (arith, s.same_ring.3), rw (← s.same_ring.1, ← s.known.same_geometry) (locates _ s.seat.id s.seat.me))
 
 pub invariant_of-self : goal.invariant_of-self
 invariant_of-self c =

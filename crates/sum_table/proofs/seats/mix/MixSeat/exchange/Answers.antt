@@ -1,22 +1,16 @@
 use Rattle.sum_table.specs.Prelude.{ap, of_z, refl, Some, subst, sym, to_z, ℤ, ◌<◌, ◌∙◌, ◌≡◌, ◌≢◌, to_z-of_z, Me, w16, Geometry, Entry, marks_with, View}
 use Rattle.sum_table.specs.Prelude.{Extent, greater, IsKnown, entry_by}
 use Rattle.sum_table.proofs.Places.{spot_within}
-use Rattle.sum_table.proofs.Seated.{MayExchange, has_laid_as, has_lost, known_lost, known_won, lay_facts, lost_notes, may_lay, ring_spot_exchanges, ring_spot_room, room_there, won_lays}
+use Rattle.sum_table.proofs.Seated.{MayExchange, has_laid, has_lost, known_looked, known_won, lay_facts, lost_notes, may_lay, ring_spot_exchanges, ring_spot_room, room_there, won_lays}
 use Rattle.sum_table.proofs.seats.mix.MixSeat.exchange.Goals as goal
 
-pub changed-new-requires-clause-low : goal.changed-new-requires-clause-low
-changed-new-requires-clause-low g c =
+pub changed-new-requires : goal.changed-new-requires
+changed-new-requires g c =
     let s = c.args.self.now in
     let z : ℤ = to_z w16 (of_z w16 c.args.sample) in
     let may : MayExchange s c.args.kind c.args.frame c.args.channel c.args.old z = may_lay s c.args.kind c.args.frame c.args.channel c.args.old c.args.sample c.ranges.sample c.requires.may c.requires.noted c.requires.of_lap in
-    (room_there s c.args.kind c.args.frame c.args.channel c.args.old z may).low
-
-pub changed-new-requires-clause-high : goal.changed-new-requires-clause-high
-changed-new-requires-clause-high g c =
-    let s = c.args.self.now in
-    let z : ℤ = to_z w16 (of_z w16 c.args.sample) in
-    let may : MayExchange s c.args.kind c.args.frame c.args.channel c.args.old z = may_lay s c.args.kind c.args.frame c.args.channel c.args.old c.args.sample c.ranges.sample c.requires.may c.requires.noted c.requires.of_lap in
-    (room_there s c.args.kind c.args.frame c.args.channel c.args.old z may).high
+    let room = room_there s c.args.kind c.args.frame c.args.channel c.args.old z may in
+    record { room = room.count; low = room.low; high = room.high }
 
 pub compare_exchange_with-found-requires : goal.compare_exchange_with-found-requires
 compare_exchange_with-found-requires g c =
@@ -36,7 +30,7 @@ invariant_of-self g c =
     let lost = lost_notes c.args.ring_spot.ring.now.table_id.slots c.args.ring_spot.spot.index c.args.old c.changed-new.result c.compare_exchange_with-found.result e s.seat.me c.compare_exchange_with-found.new.seat.me other c.compare_exchange_with-found.ensures.2 in
     record {
       same_ring = (c.compare_exchange_with-found.ensures.0 ∙ s.same_ring.0, s.same_ring.1, ap (λ (x : Me Entry View). x.1) lost.1.1 ∙ s.same_ring.2, s.same_ring.3);
-      known = known_lost s.key s.places s.reach.marks s.seen s.reach.last c.args.ring_spot.ring.now.table_id.slots c.args.ring_spot.spot.index c.args.old c.changed-new.result c.compare_exchange_with-found.result e s.seat.me c.compare_exchange_with-found.new.seat.me s.known other c.compare_exchange_with-found.ensures.2;
+      known = known_looked s.key s.places s.reach.marks s.seen s.reach.last c.args.ring_spot.ring.now.table_id.slots c.args.ring_spot.spot.index c.compare_exchange_with-found.result s.seat.me c.compare_exchange_with-found.new.seat.me s.known lost;
       one_geometry = s.one_geometry;
       lap_start = s.lap_start;
     }
@@ -78,6 +72,6 @@ returns-clause-ok g c =
     let same : c.compare_exchange_with-found.result ≡ c.args.old = c.if-found-old.false in
     let e : Entry = entry_by s c.args.kind c.args.frame c.args.channel z in
     let lays = won_lays c.args.ring_spot.ring.now.table_id.slots c.args.ring_spot.spot.index c.args.old c.changed-new.result c.compare_exchange_with-found.result e s.seat.me c.compare_exchange_with-found.new.seat.me same c.compare_exchange_with-found.ensures.2 in
-    has_laid_as s _ c.args.kind c.args.frame c.args.channel z c.args.sample (to_z-of_z w16 c.args.sample c.ranges.sample)
+    rw (← to_z-of_z w16 c.args.sample c.ranges.sample) (has_laid s _ e
     (record { ring = c.compare_exchange_with-found.ensures.0; key = refl; member = refl; places = refl; seen = refl })
-    (ap (λ (x : Extent). x.marks) c.lay.ensures ∙ ap (λ (x : Geometry). marks_with c.args.kind x s.reach.marks c.args.frame c.args.channel) s.one_geometry) (ap (λ (x : Extent). x.last) c.lay.ensures) lays
+    (ap (λ (x : Extent). x.marks) c.lay.ensures ∙ ap (λ (x : Geometry). marks_with c.args.kind x s.reach.marks c.args.frame c.args.channel) s.one_geometry) (ap (λ (x : Extent). x.last) c.lay.ensures) lays)

@@ -1,6 +1,6 @@
 use Rattle.sum_table.specs.Prelude.{ap, arith, max, subst, ◌+◌, ◌∙◌, Me, Entry, View, joined_marks, Extent, greater, IsKnown}
 use Rattle.sum_table.specs.declared.view.Key.{Key}
-use Rattle.sum_table.proofs.Cuts.{joins, known_joined, learned_kept, learns_both}
+use Rattle.sum_table.proofs.Cuts.{joins, known_joined, learns_both}
 use Rattle.sum_table.proofs.seats.mix.MixSeat.join.Goals as goal
 
 pub join_seat-requires : goal.join_seat-requires
@@ -26,7 +26,7 @@ invariant_of-self c =
       same_ring = (
         c.load-self.ensures.0 ∙ (c.join_seat.ensures.0 ∙ s.same_ring.0),
         s.same_ring.1,
-        learned_kept s.ring.now.table_id.slots c.load-self.result c.join_seat.new.seat.me c.load-self.new.seat.me c.load-self.ensures.2 ∙ (ap (λ (m : Me Entry View). m.1) c.join_seat.ensures.2 ∙ s.same_ring.2),
+        ap (λ (m : Me Entry View). m.1) c.load-self.ensures.2.1 ∙ (ap (λ (m : Me Entry View). m.1) c.join_seat.ensures.2 ∙ s.same_ring.2),
         s.same_ring.3,
       );
       known = rw (c.join.ensures, c.max-self.ensures) known;

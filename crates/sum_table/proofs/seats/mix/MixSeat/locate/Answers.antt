@@ -1,5 +1,6 @@
 use Rattle.sum_table.specs.Prelude.{arith, refl, subst, sym, ◌∙◌, IsKnown}
-use Rattle.sum_table.proofs.Seated.{has_located, known_located, locates_at}
+use Rattle.sum_table.proofs.Keeps.{locates}
+use Rattle.sum_table.proofs.Seated.{has_located, known_located}
 use Rattle.sum_table.proofs.seats.mix.MixSeat.locate.Goals as goal
 
 pub load-word-requires : goal.load-word-requires
@@ -7,7 +8,7 @@ load-word-requires c =
     let s = c.args.self.now in (
       s.same_ring.0,
       omega (arith, s.same_ring.3),
-      locates_at s.ring.now.key _ s.seat.id s.seat.me (s.known.same_key ∙ s.same_ring.1) s.known.lasts,
+      rw (← (s.known.same_key ∙ s.same_ring.1)) (locates _ s.seat.id s.seat.me s.known.lasts),
     )
 
 pub invariant_of-self : goal.invariant_of-self

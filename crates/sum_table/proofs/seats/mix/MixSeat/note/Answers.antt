@@ -1,5 +1,5 @@
 use Rattle.sum_table.specs.Prelude.{ap, arith, refl, subst, sym, ◌∙◌, Me, Entry, View, part_of, Extent, IsKnown}
-use Rattle.sum_table.proofs.Cuts.{known_as, known_part, may_note}
+use Rattle.sum_table.proofs.Cuts.{known_part, may_note, known_as}
 use Rattle.sum_table.proofs.seats.mix.MixSeat.note.Goals as goal
 
 pub split_seat-seat-requires : goal.split_seat-seat-requires

@@ -1,6 +1,6 @@
 use Rattle.sum_table.specs.Prelude.{ap, subst, sym, true, ◌<◌, ◌∙◌, ◌≡◌, to_z-of_z, w16, lap, Withdrawn, IsTurned, MayLay}
 use Rattle.sum_table.specs.declared.view.Key.{Key}
-use Rattle.sum_table.proofs.Placing.{counted_as, turned_counted, turned_may}
+use Rattle.sum_table.proofs.Placing.{turned_counted, turned_may}
 use Rattle.sum_table.proofs.Seated.{lay_facts}
 use Rattle.sum_table.proofs.seats.mix.MixSeat.withdraw_counted.Goals as goal
 
@@ -30,6 +30,5 @@ lay-ended-requires-clause-may g c =
 
 pub returns-clause-step : goal.returns-clause-step
 returns-clause-step g c =
-    counted_as g.G.Gate.stops g.G.Gate.asked c.args.self.now _ _ _ Withdrawn c.args.frame c.args.channel _ c.args.sample _ _ _ _
-    (to_z-of_z w16 c.args.sample c.ranges.sample) c.answer.ensures.ended
-    (turned_counted g.G.Gate.stops g.G.Gate.asked c.args.self.now c.turn_to_frame.new.self _ c.args.frame _ _ Withdrawn c.args.channel _ _ _ _ (c.turn_to_frame.ensures.turned c.if-not-turn_to_frame.false) c.lay-ended.ensures)
+    rw c.answer.ensures.ended (rw (to_z-of_z w16 c.args.sample c.ranges.sample) at
+    (turned_counted g.G.Gate.stops g.G.Gate.asked c.args.self.now c.turn_to_frame.new.self _ c.args.frame _ _ Withdrawn c.args.channel _ _ _ _ (c.turn_to_frame.ensures.turned c.if-not-turn_to_frame.false) c.lay-ended.ensures))

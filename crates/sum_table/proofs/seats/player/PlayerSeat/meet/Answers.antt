@@ -1,6 +1,6 @@
 use Rattle.sum_table.specs.Prelude.{ap, arith, refl, subst, ◌∙◌, Me, Entry, View, IsKnown}
 use Rattle.sum_table.specs.declared.view.Key.{Key}
-use Rattle.sum_table.proofs.Cuts.{joins, has_heard, known_heard, learned_kept, learns_both}
+use Rattle.sum_table.proofs.Cuts.{joins, has_heard, known_heard, learns_both}
 use Rattle.sum_table.proofs.seats.player.PlayerSeat.meet.Goals as goal
 
 pub join_seat-requires : goal.join_seat-requires
@@ -25,7 +25,7 @@ invariant_of-self c =
       same_ring = (
         c.load.ensures.0 ∙ (c.join_seat.ensures.0 ∙ p.same_ring.0),
         p.same_ring.1,
-        learned_kept p.ring.now.table_id.slots c.load.result c.join_seat.new.seat.me c.load.new.seat.me c.load.ensures.2 ∙ (ap (λ (m : Me Entry View). m.1) c.join_seat.ensures.2 ∙ p.same_ring.2),
+        ap (λ (m : Me Entry View). m.1) c.load.ensures.2.1 ∙ (ap (λ (m : Me Entry View). m.1) c.join_seat.ensures.2 ∙ p.same_ring.2),
         p.same_ring.3,
       );
       known = known_heard p.key p.next p.position p.gone o.places o.reach.marks o.seen o.reach.last p.seat.me.0 o.seat.me.0 p.ring.now.table_id.slots c.load.result c.join_seat.new.seat.me c.load.new.seat.me p.known met n.no_places n.laid_nothing both c.load.ensures.2;

@@ -1,5 +1,5 @@
 use Rattle.sum_table.specs.Prelude.{ap, arith, refl, subst, sym, ◌∙◌, Me, Entry, View, part_of, Extent, IsKnown}
-use Rattle.sum_table.proofs.Cuts.{has_player_note, known_as, known_part, may_note}
+use Rattle.sum_table.proofs.Cuts.{has_player_note, known_part, may_note, known_as}
 use Rattle.sum_table.proofs.seats.player.PlayerSeat.note.Goals as goal
 
 pub split_seat-seat-requires : goal.split_seat-seat-requires
