@@ -1,7 +1,7 @@
 -- What a call does by its test: one that is refused changes nothing, and one that is admitted takes its course.
-use Rattle.dmix_client.specs.Prelude.{List, refl, subst, sym, ◌≡◌, Err, IsErrAnd, None, Ok, Option, Result, Some, ℤ, PcmError, Composes, Call, Playback}
-use Rattle.dmix_client.specs.Prelude.{refusal_of, refused_by, Go, PortView, TakesAt, Course, pass_by, PlaybackStream, Answered, admitted_by, if_admitted}
-use Rattle.dmix_client.specs.Prelude.{AnySamples, Keeps, CanUse, ClientView, IsSoundClient}
+use Rattle.dmix_client.specs.Prelude.{arith, List, refl, subst, sym, ◌≡◌, nat_tests, Err, IsErrAnd, None, Ok, Option, Result, Some, ℤ, PcmError, Composes, Call}
+use Rattle.dmix_client.specs.Prelude.{Playback, refusal_of, refused_by, Go, PortView, TakesAt, Course, pass_by, PlaybackStream, Answered, admitted_by}
+use Rattle.dmix_client.specs.Prelude.{if_admitted, AnySamples, Keeps, CanUse, ClientView, IsSoundClient}
 use Rattle.pcm_stream.specs.RefusalLaws.{not-both, passed-on, refusal-of_err, refusal-of_ok, same-refusal}
 use Rattle.dmix_client.specs.CallRelations.{Calls}
 use Rattle.dmix_client.proofs.Going.{refused-go}
@@ -74,13 +74,7 @@ module _ {S T X : Type 0} (P : mixport.Ghosts S) (G : gates.Ghosts T) (s : S × 
 module _ {S T X : Type 0} {P : mixport.Ghosts S} {G : gates.Ghosts T} {s : S × T} {course : Course (Answered X)} {answer : Result X PcmError} where
   -- a call that is refused, whatever it keeps of a client that stays
   pub refused-call : {c : ClientView} {call : Call} {Frame Cause : Type 0} → Refusal c call answer → Frame → Calls P G s s c c answer call course Frame Cause
-  refused-call r frame = record {
-    takes = refused-takes P G s course r;
-    refused = λ e found. (refused-answer r e found, refl, refl, refl);
-    ring = refl;
-    keeps = frame;
-    causes = λ admitted. absurd (never-admitted r admitted);
-  }
+  refused-call r frame = grind (arith, nat_tests)
 
   -- a call that is admitted
   pub admitted-call : {t : S × T} {c d : ClientView} {call : Call} {Frame Cause : Type 0}

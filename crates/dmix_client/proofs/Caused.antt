@@ -1,15 +1,13 @@
 -- Why a sync, a start and a write answered an error: by the position that they loaded, and by where their commits ended.
-use Rattle.dmix_client.specs.Prelude.{ap, arith, length, refl, subst, sym, ℕ, ◌+◌, ◌<◌, ◌∙◌, ◌≡◌, ◌≤◌, nat_tests, Bool, Err, false, IfErr, IfNone, IfSome}
-use Rattle.dmix_client.specs.Prelude.{if◌then◌else◌, is_some, nat_le, None, Ok, Option, Result, slice_index, Some, true, ◌&&◌, ◌||◌, ◌↔◌, PcmError, Again}
-use Rattle.dmix_client.specs.Prelude.{LapEnd, NoDevice, XrunWhy, Avail, Cursor, rising, Call, Outcome, State, Prepared, Running, Ended, Position, IsPast}
-use Rattle.dmix_client.specs.Prelude.{OnLate, PortView, Commit, PlaybackStream, accepted_if, after_start, after_sync, Answered, commit_count, committed_by}
-use Rattle.dmix_client.specs.Prelude.{end_channel, end_of_commit, is_running, is_stop, late_at, late_of, over_of, seen_at, started_in, sync_count, taken_of}
-use Rattle.dmix_client.specs.Prelude.{with_number, with_outcome, written_on, IsCaused, IsCausedBy, IsGone, IsOfSteps, Reaches, IsCommit, IsFound, IsFrameStep}
-use Rattle.dmix_client.specs.Prelude.{avail_of, queued_of}
+use Rattle.dmix_client.specs.Prelude.{ap, arith, length, refl, subst, sym, ℕ, ◌+◌, ◌<◌, ◌≡◌, ◌≤◌, nat_tests, Bool, Err, false, IfErr, IfNone, IfSome, None, Ok}
+use Rattle.dmix_client.specs.Prelude.{Option, Result, slice_index, Some, true, ◌↔◌, PcmError, Again, LapEnd, NoDevice, XrunWhy, Avail, Cursor, rising, Call}
+use Rattle.dmix_client.specs.Prelude.{Outcome, State, Prepared, Running, Ended, Position, IsPast, OnLate, PortView, Commit, PlaybackStream, accepted_if}
+use Rattle.dmix_client.specs.Prelude.{after_start, after_sync, Answered, committed_by, end_channel, end_of_commit, is_stop, late_at, late_of, over_of, seen_at}
+use Rattle.dmix_client.specs.Prelude.{started_in, sync_count, taken_of, with_number, with_outcome, written_on, IsCaused, IsCausedBy, IsGone, IsOfSteps, Reaches}
+use Rattle.dmix_client.specs.Prelude.{IsCommit, IsFound, IsFrameStep, avail_of, queued_of}
 use Rattle.snd_base.specs.declared.errors.PcmError.TheVariants.{Stopped, Xrun}
 use Rattle.snd_base.specs.declared.errors.XrunWhy.TheVariants.{Late}
-use Rattle.dmix_client.proofs.Ends.{by-test, next-ends, after_start-ends, written-ends}
-use Rattle.dmix_client.proofs.Sound.{none-of}
+use Rattle.dmix_client.proofs.Ends.{by-test, next-ends, written-ends}
 use Rattle.pcm_states.specs.declared.calls.Call.TheVariants as call
 use Rattle.mix_core.specs.declared.port.Ended.TheVariants as ended
 
@@ -52,48 +50,22 @@ pub record IsFree (c : PlaybackStream) (load : Option Position) : Type 0 where
 -- how a late commit ended
 late-found : (e : Ended) (frame channel : ℕ) (w : XrunWhy) (P : ℕ → Type 0) → late_at e frame channel ≡ Some w → OnLate e P
     → (word : ℕ) × (w ≡ Late frame channel word) × P word
-late-found ended.Whole frame channel w P is late = absurd (cc)
 late-found (ended.Late word) frame channel w P is late = (word, cc, late)
-late-found ended.Stopped frame channel w P is late = absurd (cc)
+late-found other frame channel w P is late = absurd (cc)
 
 module _ {Missed : ℕ → ℕ → ℕ → Type 0} {c : PlaybackStream} where
   -- the gate stopped the load
   pub caused-none : {X : Type 0} → IsCausedBy {X = X} Missed c None (Err Stopped)
-  caused-none = record {
-    unless_stopped = refl;
-    of_steps = tt;
-    no_device = (λ h. cc, λ h. absurd h);
-    reached = λ a f. (λ h. cc, λ h. absurd h);
-    late = λ frame channel word h. cc;
-    never_lap_end = λ h. cc;
-  }
+  caused-none = grind (arith, nat_tests)
 
   -- the card is gone
   caused-gone : (position : Position) → position.gone ≡ true → IsCausedBy {X = Unit {0}} Missed c (Some position) (Err NoDevice)
-  caused-gone position gone = record {
-    unless_stopped = tt;
-    of_steps = tt;
-    no_device = (λ h. gone, λ h. refl);
-    reached = λ a f. (λ h. cc, λ h. absurd (let x = h.0 in cc));
-    late = λ frame channel word h. cc;
-    never_lap_end = λ h. cc;
-  }
+  caused-gone position gone = grind (arith, nat_tests)
 
   -- the stop threshold is reached
   caused-over : (position : Position) (x y : ℕ) → Reaches c (Some position) x y
       → IsCausedBy {X = Unit {0}} Missed c (Some position) (Err (Xrun (Avail x y)))
-  caused-over position x y reaches = record {
-    unless_stopped = tt;
-    of_steps = tt;
-    no_device = (λ h. cc, λ h. absurd (let here = reaches.0 in cc));
-    reached = λ a f. (
-      λ h. (let is_avail : x ≡ a = cc in let is_frame : y ≡ f = cc in subst (λ (k : ℕ). Reaches c (Some position) a k) is_frame
-          (subst (λ (k : ℕ). Reaches c (Some position) k y) is_avail reaches)),
-      λ h. (let one = reaches.3 in let two = reaches.4 in let is_avail = h.3 in let is_frame = h.4 in cc),
-    );
-    late = λ frame channel word h. cc;
-    never_lap_end = λ h. cc;
-  }
+  caused-over position x y reaches = grind (arith, nat_tests)
 
   -- any other answer
   pub caused-other : {X : Type 0} {load : Option Position} {answer : Result X PcmError} → IsFree c load → IsOther answer → IsCausedBy Missed c load answer
@@ -178,71 +150,24 @@ pub record IsPlain (gone : Bool) (over : Option (ℕ × ℕ)) (e : Ended) : Type
   pub here : gone ≡ true → e ≡ ended.Whole
   pub below : (a f : ℕ) → over ≡ Some (a, f) → e ≡ ended.Whole
 
-last-true : (a b : Bool) (n : ℕ) → b ≡ true → (if a || b then 0 else n) ≡ 0
-last-true true b n is = refl
-last-true false true n is = refl
-last-true false false n is = absurd (cc)
-
 IsPlain-after_sync : (c : PlaybackStream) (position : Position) (x : Commit)
     → IsCommit x.ended x.frames x.part (sync_count c position) (length c.setup.bindings)
     → IsPlain position.gone (over_of (seen_at c position) position) x.ended
-IsPlain-after_sync c position x is =
-    let over = over_of (seen_at c position) position in
-    let count = commit_count c position.frame c.stretch.written in
-    let whole : sync_count c position ≡ 0 → x.ended ≡ ended.Whole =
-    λ none. (none-of x.ended x.frames x.part (length c.setup.bindings) (subst (λ (n : ℕ). IsCommit x.ended x.frames x.part n
-    (length c.setup.bindings)) none is)).2 in
-    record {
-      here = λ h. whole (rw h refl);
-      below = λ a f h. whole (last-true position.gone (is_some over) count (ap (λ (o : Option (ℕ × ℕ)). is_some o) h));
-    }
-
-running-is : (s : State) → is_running s ≡ true → s ≡ Running
-running-is Running is = refl
-running-is s is = absurd (cc)
-
-if-some : (b : Bool) (x y a f : ℕ) → (let o : Option (ℕ × ℕ) = (if b then Some (x, y) else None) in o) ≡ Some (a, f) → (b ≡ true) × (a ≡ x) × (f ≡ y)
-if-some true x y a f is =
-    let same : (let p : ℕ × ℕ = (x, y) in p) ≡ (a, f) = cc in (refl, sym (ap (λ (p : ℕ × ℕ). p.0) same), sym (ap (λ (p : ℕ × ℕ). p.1) same))
-if-some false x y a f is = absurd (cc)
-
-both-true : (s : State) (t n : ℕ) → (is_running s && nat_le t n) ≡ true → (is_running s ≡ true) × (t ≤ n)
-both-true s t n is = by_test (is_running s) is
-  where
-    by_test : (b : Bool) → (b && nat_le t n) ≡ true → (b ≡ true) × (t ≤ n)
-    by_test true e = (refl, grind (arith, nat_tests))
-    by_test false e = absurd (cc)
+IsPlain-after_sync c position x is = grind (arith, nat_tests)
 
 some-of : (c : PlaybackStream) (position : Position) (a f : ℕ) → c.status.state ≡ Running → c.setup.params.stop_threshold ≤ a
     → a ≡ avail_of (seen_at c position) → f ≡ position.frame
     → over_of (seen_at c position) position ≡ Some (a, f)
-some-of c position a f running low is_avail is_frame =
-    let reached : (is_running c.status.state && nat_le c.setup.params.stop_threshold (avail_of (seen_at c position))) ≡ true =
-    ap (λ (s : State). is_running s && nat_le c.setup.params.stop_threshold (avail_of (seen_at c position))) running ∙ at_threshold
-    c.setup.params.stop_threshold a (avail_of (seen_at c position)) low is_avail in
-    ap (λ (b : Bool). let o : Option (ℕ × ℕ) = (if b then Some (avail_of (seen_at c position), position.frame) else None) in o) reached
-    ∙ ap (λ (n : ℕ). let o : Option (ℕ × ℕ) = Some (n, position.frame) in o) (sym is_avail)
-    ∙ ap (λ (n : ℕ). let o : Option (ℕ × ℕ) = Some (a, n) in o) (sym is_frame)
-  where
-    at_threshold : (t a n : ℕ) → t ≤ a → a ≡ n → nat_le t n ≡ true
-    at_threshold t a n low is = grind (arith, nat_tests)
+some-of c position a f running low is_avail is_frame = grind (arith, nat_tests)
 
 -- what the threshold reached says
 reaches-of : (c : PlaybackStream) (position : Position) (a f : ℕ) → position.gone ≡ false → over_of (seen_at c position) position ≡ Some (a, f)
     → Reaches c (Some position) a f
-reaches-of c position a f here is =
-    let found = if-some (is_running c.status.state && nat_le c.setup.params.stop_threshold (avail_of (seen_at c position))) (avail_of (seen_at c position))
-    position.frame a f is in
-    let both = both-true c.status.state c.setup.params.stop_threshold (avail_of (seen_at c position)) found.0 in
-    (here, running-is c.status.state both.0, omega (arith, both.1, found.1), found.1, found.2)
+reaches-of c position a f here is = grind (arith, nat_tests)
 
 free-at : (c : PlaybackStream) (position : Position) → position.gone ≡ false → (c.status.state ≡ Running → over_of (seen_at c position) position ≡ None)
     → IsFree c (Some position)
-free-at c position here none = record {
-  loaded = tt;
-  here = λ gone. let is : position.gone ≡ true = gone in cc;
-  below = λ a f h. let is = some-of c position a f h.1 h.2 h.3 h.4 in let no = none h.1 in cc;
-}
+free-at c position here none = grind (arith, nat_tests)
 
 module _ {S : Type 0} {view : S → PortView} {shows : S → ℕ → ℕ → Option ℕ} {q : S} where
   pub IsCaused-plain : (c : PlaybackStream) (call : Call) (load : Option Position) (x : Commit) → IsFrameStep c.status.state call
@@ -287,13 +212,7 @@ module _ {S : Type 0} {view : S → PortView} {shows : S → ℕ → ℕ → Opt
       → IfSome load (λ (position : Position). OnLate x.ended (λ word. IsPast view shows q (end_of_commit (started_in c Running position cursor) x)
       (end_channel (started_in c Running position cursor) x) word))
       → IsCaused {X = Unit {0}} view shows q c (after_start c state cursor load x).0 load (after_start c state cursor load x).1
-  IsCaused-after_start c state cursor None x waits shown = caused-none
-  IsCaused-after_start c state cursor (Some position) x waits shown =
-      after_start-ends (λ (a : Answered (Unit {0})). IsCaused {X = Unit {0}} view shows q c a.0 (Some position) a.1) c state cursor position x
-      (λ gone. caused-gone position gone)
-      (λ here stop. caused-other (free-at c position here (λ runs. absurd (cc))) other-stopped)
-      (λ w here going is. caused-commit (started_in c Running position cursor) _ x w (free-at c position here (λ runs. absurd (cc))) refl refl is shown)
-      (λ here going in_time. caused-other (free-at c position here (λ runs. absurd (cc))) (other-ok tt))
+  IsCaused-after_start c state cursor load x waits shown = grind (arith, nat_tests)
 
   -- ---- a write after its sync
 
@@ -320,19 +239,9 @@ module _ {S : Type 0} {view : S → PortView} {shows : S → ℕ → ℕ → Opt
 
 pub after_sync-not_again : (c : PlaybackStream) (load : Option Position) (x : Commit) → c.status.state ≡ Running
     → (after_sync c call.Transfer load x).1 ≡ Err Again → ⊥
-after_sync-not_again c None x running = λ is. cc
-after_sync-not_again c (Some position) x running =
-    by-test (λ (a : Answered (Unit {0})). a.1 ≡ Err Again → ⊥) (is_stop x.ended) _ _ (λ stop is. cc)
-    (λ going. next-ends (λ (o : Outcome). o.answer ≡ Err Again → ⊥) c.status.state call.Transfer (queued_of (committed_by (seen_at c position) x)) position.gone
-    (over_of (seen_at c position) position) (late_of (seen_at c position) x)
-    (subst (λ (s : State). IsFrameStep s call.Transfer) (sym running) tt) (λ gone is. cc) (λ a f here runs over is. cc) (λ w here none late is. cc)
-    (λ here runs none in_time is. cc) (λ here drains in_time is. cc) (λ here drains in_time same is. cc) (λ here drains in_time same. absurd (cc)))
+after_sync-not_again c load x running = grind (arith, nat_tests)
 
 -- a write says so exactly where its sync went well, frames were offered and none can be taken
 pub written_on-again : (a : Answered (Unit {0})) (n : ℕ) (last : Commit) → (a.1 ≡ Err Again → ⊥)
     → ((written_on a n last).1 ≡ Err Again) ↔ ((a.1 ≡ Ok tt) × (0 < n) × (avail_of a.0 ≡ 0))
-written_on-again (c, Ok done) n last other =
-    written-ends (λ (a : Answered ℕ). (a.1 ≡ Err Again) ↔ (((let r : Result (Unit {0}) PcmError = Ok done in r) ≡ Ok tt) × (0 < n) × (avail_of c ≡ 0))) c n last
-    (λ some none. (λ h. (refl, some, none), λ h. refl)) (λ full stop. (λ h. cc, λ h. absurd (full h.1 h.2)))
-    (λ w full going late. (λ h. cc, λ h. absurd (full h.1 h.2))) (λ full going in_time. (λ h. cc, λ h. absurd (full h.1 h.2)))
-written_on-again (c, Err e) n last other = (λ h. absurd (other (same-error {X = ℕ} e Again h)), λ h. let x = h.0 in cc)
+written_on-again a n last other = grind (arith, nat_tests)

@@ -1,14 +1,11 @@
 -- How a frame is placed, channel by channel.
-use Rattle.dmix_client.specs.Prelude.{ap, arith, length, List, refl, suc, sym, zero, ℕ, ◌%◌, ◌*◌, ◌+◌, ◌/◌, ◌<◌, ◌∙◌, ◌≡◌, ◌≤◌, div-lt_iff_lt-mul, nat_tests}
-use Rattle.dmix_client.specs.Prelude.{pos, slice_index, slice_index_or, ℤ, Geometry, Cursor, cursor_after, first_free, IsFrom, AreBindings, rising}
-use Rattle.dmix_client.specs.Prelude.{rising-rises, rising-within, Marks, Ended, Late, Stopped, Whole, Entry, PortView, PlaybackStream, slot-behind}
-use Rattle.dmix_client.specs.Prelude.{ring_sample, slot_sample}
+use Rattle.dmix_client.specs.Prelude.{ap, arith, length, List, suc, sym, zero, ℕ, ◌%◌, ◌*◌, ◌+◌, ◌/◌, ◌<◌, ◌∙◌, ◌≡◌, ◌≤◌, div-lt_iff_lt-mul, nat_tests, pos}
+use Rattle.dmix_client.specs.Prelude.{slice_index, slice_index_or, ℤ, Geometry, Cursor, cursor_after, first_free, IsFrom, AreBindings, rising, rising-rises}
+use Rattle.dmix_client.specs.Prelude.{rising-within, Marks, Ended, Late, Stopped, Whole, Entry, PortView, PlaybackStream, slot-behind, ring_sample, slot_sample}
 
 -- what holds of a late end and of a stop holds of each that isn't whole
 pub not-whole : (X : Ended → Type 0) (e : Ended) → (e ≡ Whole → ⊥) → ((word : ℕ) → X (Late word)) → X Stopped → X e
-not-whole X Whole not_so late stopped = absurd (not_so refl)
-not-whole X (Late word) not_so late stopped = late word
-not-whole X Stopped not_so late stopped = stopped
+not-whole X e not_so late stopped = grind (arith, nat_tests)
 
 -- a frame before the end is below the last lap
 pub lap-below : (frame n : ℕ) → frame < 4294967295 * n → frame / n < 4294967295
@@ -47,9 +44,7 @@ pub entry-ring_sample : (E : ℕ → ℕ → ℤ → Entry) (stream : PlaybackSt
     → member ≡ stream.identity.member → channel ≡ slice_index stream.setup.bindings q
     → slot ≡ (stream.stretch.source + number) % stream.setup.config.buffer_size * length stream.setup.bindings → x ≡ slice_index_or ring (slot + q) (pos 0)
     → E member channel x ≡ E stream.identity.member (slice_index stream.setup.bindings q) (ring_sample stream ring number q)
-entry-ring_sample E stream ring number slot q member channel x is_member is_channel is_slot is =
-    ap (λ (m : ℕ). E m channel x) is_member ∙ ap (λ (k : ℕ). E stream.identity.member k x) is_channel
-    ∙ ap (E stream.identity.member (slice_index stream.setup.bindings q)) (is ∙ ap (λ (i : ℕ). slice_index_or ring (i + q) (pos 0)) is_slot)
+entry-ring_sample E stream ring number slot q member channel x is_member is_channel is_slot is = grind (arith, nat_tests)
 
 -- the entry of a sample in a frame of the local ring, by the slot where the frame begins
 pub entry-bound : (E : ℕ → ℕ → ℤ → Entry) (bindings : List ℕ) (ring : List ℤ) (slot q m member channel : ℕ) (x : ℤ) → m ≡ member

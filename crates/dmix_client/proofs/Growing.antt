@@ -1,8 +1,8 @@
 -- How a client's segment grows by what a commit places, and which samples the client represents then.
-use Rattle.dmix_client.specs.Prelude.{add-zero, ap, arith, inl, inr, length, List, refl, sym, zero-add, ℕ, ◌*◌, ◌++◌, ◌+◌, ◌<◌, ◌∙◌, ◌≡◌, ◌≤◌, cases_eq}
-use Rattle.dmix_client.specs.Prelude.{nat_tests, Err, min, Ok, unwrap_or, ℤ, AreBindings, Prepared, Status, Entry, Commit, PlaybackStream, accepted_if}
-use Rattle.dmix_client.specs.Prelude.{Answered, taken_of, window_end, run_entries, sample_at, run_entries-append, run_entries-same, Follows, segment_entries}
-use Rattle.dmix_client.specs.Prelude.{StandsFor, StandsUpTo, hw_of, IsSoundClient, ring_sample, ring_with}
+use Rattle.dmix_client.specs.Prelude.{ap, arith, length, List, sym, zero-add, ℕ, ◌*◌, ◌++◌, ◌+◌, ◌<◌, ◌∙◌, ◌≡◌, ◌≤◌, nat_tests, min, unwrap_or, ℤ, AreBindings}
+use Rattle.dmix_client.specs.Prelude.{Prepared, Status, Entry, Commit, PlaybackStream, accepted_if, Answered, taken_of, window_end, run_entries, sample_at}
+use Rattle.dmix_client.specs.Prelude.{run_entries-append, run_entries-same, Follows, segment_entries, StandsFor, StandsUpTo, hw_of, IsSoundClient, ring_sample}
+use Rattle.dmix_client.specs.Prelude.{ring_with}
 use Rattle.dmix_client.proofs.Sound.{CommitsAs, after, configured-prepared, count-below, min-later, used-below}
 use Rattle.dmix_client.proofs.Storing.{StandsUpTo-written}
 
@@ -16,15 +16,7 @@ StandsFor-after c b ring samples x count upto s written fed y few stands j q low
 -- whole frames that are elsewhere are the same where there are none
 whole-at : (member : ℕ) (bindings : List ℕ) (s : ℕ → ℕ → ℤ) (card at n part : ℕ) → part ≡ 0 → (0 < n → at ≡ card)
     → run_entries member bindings s at 0 n 0 ≡ run_entries member bindings s card 0 n part
-whole-at member bindings s card at n part none same = elim (cases_eq n 0) [
-  | inl zero_frames ↦
-      ap (λ (k : ℕ). run_entries member bindings s at 0 k 0) zero_frames
-      ∙ ap (λ (p : ℕ). run_entries member bindings s card 0 0 p) (sym none)
-      ∙ ap (λ (k : ℕ). run_entries member bindings s card 0 k part) (sym zero_frames)
-  | inr some ↦
-      ap (λ (f : ℕ). run_entries member bindings s f 0 n 0) (same (omega arith))
-      ∙ ap (run_entries member bindings s card 0 n) (sym none)
-]
+whole-at member bindings s card at n part none same = grind (arith, nat_tests)
 
 -- what a commit placed of a local ring
 abbrev pub laid_at : PlaybackStream → PlaybackStream → List ℤ → Commit → List Entry
@@ -52,16 +44,11 @@ segment_entries-after c b ring samples x count upto s written fed y bound stands
 
 pub laid_at-none : (c b : PlaybackStream) (ring : List ℤ) (x : Commit) → x.frames ≡ 0 → x.part ≡ 0
     → laid_at c b ring x ≡ laid_at c b ring (record { frames = 0; part = 0; ended = x.ended })
-laid_at-none c b ring x no_frame no_part =
-    ap (λ (n : ℕ). laid_at c b ring (record x { frames = n })) no_frame ∙ ap (λ (n : ℕ). laid_at c b ring
-    (record { frames = 0; part = n; ended = x.ended })) no_part
+laid_at-none c b ring x no_frame no_part = grind (arith, nat_tests)
 
 -- no frame more is accepted
 pub accepted-none : (a : Answered (Unit {0})) → (accepted_if 0 a).0 ≡ a.0
-accepted-none (d, Ok done) =
-    ap (λ (w : ℕ). record d { stretch = record d.stretch { written = w }; fed = d.fed + 0 }) (add-zero d.stretch.written)
-    ∙ ap (λ (f : ℕ). record d { fed = f }) (add-zero d.fed)
-accepted-none (d, Err e) = refl
+accepted-none a = grind (arith, nat_tests)
 
 -- ---- a client that stored the frames of a write represents its samples up to these
 

@@ -15,7 +15,7 @@ use Rattle.dmix_client.specs.Prelude.{least_channel, LoadsAndCommits, TakesStep,
 use Rattle.dmix_client.specs.Prelude.{IsMoving, IsSoundClient, queued_of, ring_sample, count_with, ring_with, taken_after}
 use Rattle.std.proofs.lemmas.Result.{on_ok_weaker}
 use Rattle.dmix_client.specs.GrowthLaws.{Grows-joined}
-use Rattle.dmix_client.proofs.Caused.{IsCaused-after_start, IsCaused-after_sync, caused-accepted, caused-moved, caused-none, caused-on, after_sync-not_again, written_on-again}
+use Rattle.dmix_client.proofs.Caused.{IsCaused-after_start, IsCaused-after_sync, caused-accepted, caused-moved, caused-on, after_sync-not_again, written_on-again}
 use Rattle.dmix_client.proofs.Ends.{by-test, after_start-ends, written-ends}
 use Rattle.dmix_client.proofs.Going.{IsStill, OnOk-of, accepted_if-told, after_start-still, after_sync-runs, after_sync-still, told-going, told-stop}
 use Rattle.dmix_client.proofs.Growing.{StandsFor-after, StandsUpTo-filled, accepted-none, laid_at, laid_at-none, segment_entries-after}
@@ -37,12 +37,7 @@ start-free cursor position lead k c none = grind (arith, nat_tests)
 -- a position that was loaded, of a port that a client uses
 pub loaded-of : (c : PlaybackStream) (v : PortView) (position : Position) → is_moving c.status.state ≡ true → c.status.stopped ≡ false → CanUse c v
     → v.seen ≤ position.frame → IsInRing v.geometry position.frame → IsLoaded c position
-loaded-of c v position moves going port newer within =
-    record {
-      newer = omega (arith, port.newer moves going, newer);
-      most = subst (λ (g : Geometry). position.frame ≤ end_frame g)
-          port.same_geometry within.most;
-    }
+loaded-of c v position moves going port newer within = grind (arith, nat_tests)
 
 pub IsSamePort-refl : (v : PortView) → IsSamePort v v
 IsSamePort-refl v = record { same_geometry = refl; same_member = refl; same_can_add = refl }
@@ -53,49 +48,19 @@ pub IsSoundClient-stored : (c : PlaybackStream) (ring samples : List ℤ) (m : �
 IsSoundClient-stored c ring samples m sound k held_all =
     let has = stored-HasRoom c.setup.config.buffer_size (length c.setup.bindings) ring (c.stretch.source + c.stretch.written) samples m
     (record { some = k.buffer_least; room = k.room }) held_all in
-    record {
-      lead = sound.lead;
-      seen = sound.seen;
-      card = sound.card;
-      fed = sound.fed;
-      laid = sound.laid;
-      set_up = sound.set_up;
-      configured = λ set. record {
-        bound = k.bound;
-        on_card = k.on_card;
-        channels = k.channels;
-        buffer_least = k.buffer_least;
-        buffer_most = k.buffer_most;
-        room = has.room;
-      };
-      prepared = sound.prepared;
-      moving = sound.moving;
-      paused = sound.paused;
-    }
+    let whole : c.setup.configured ≡ true → IsConfigured c (ring_with c ring samples m) = λ set. assumption (has.room) in
+    assumption
 
 taken-room : (n b w : ℕ) → w ≤ b → w + min n (min (b + 0 - w) b) ≤ b
 taken-room n b w fits = grind (arith, nat_tests)
 
 taken-waiting : (c : PlaybackStream) (n : ℕ) → c.stretch.started ≡ false
     → taken_of c n ≡ min n (min (c.setup.config.buffer_size + 0 - c.stretch.written) c.setup.config.buffer_size)
-taken-waiting c n waits =
-    ap (λ (b : Bool). min n (min (c.setup.config.buffer_size + (if b then unwrap_or c.seen 0 - c.stretch.card else 0) - c.stretch.written)
-    c.setup.config.buffer_size)) waits
+taken-waiting c n waits = grind (arith, nat_tests)
 
 IsSoundClient-filled : (c : PlaybackStream) (ring : List ℤ) (m : ℕ) → IsSoundClient c ring → c.status.state ≡ Prepared
     → c.stretch.written + m ≤ c.setup.config.buffer_size → IsSoundClient (with_accepted c m) ring
-IsSoundClient-filled c ring m sound waits fits = record {
-  lead = sound.lead;
-  seen = sound.seen;
-  card = sound.card;
-  fed = omega (arith, sound.fed);
-  laid = sound.laid;
-  set_up = sound.set_up;
-  configured = sound.configured;
-  prepared = λ is. let p = sound.prepared is in record { waiting = p.waiting; no_frame = p.no_frame; no_part = p.no_part; fits = fits };
-  moving = λ moves going. absurd (not_prepared-moving c.status.state moves waits);
-  paused = λ is. absurd (cc);
-}
+IsSoundClient-filled c ring m sound waits fits = grind (arith, nat_tests)
 
 filled-stands : (c : PlaybackStream) (ring stored samples all : List ℤ) (n m : ℕ) → m ≡ taken_of c n → stored ≡ ring_with c ring samples m
     → IsSoundClient c ring → c.status.state ≡ Prepared
@@ -105,24 +70,10 @@ filled-stands c ring stored samples all n m is is_stored sound waits held_all st
     (subst (λ (k : ℕ). StandsUpTo c (ring_with c ring samples k) all (c.stretch.written + k)) (sym is)
     (StandsUpTo-filled c ring all samples n sound waits held_all stands follows))
 
--- a drain is admitted of a client with a configuration
-drain-set_up : (stopped : Bool) (s : State)
-    → (let o : Option PcmError = (if stopped then Some error.Stopped else refusal_in (next_of s call.Drain (nothing_found Playback)).answer) in
-    o) ≡ None → is_set_up s ≡ true
-drain-set_up true s is = absurd (cc)
-drain-set_up false Setup is = refl
-drain-set_up false Prepared is = refl
-drain-set_up false Running is = refl
-drain-set_up false Xrun is = refl
-drain-set_up false Draining is = refl
-drain-set_up false s is = absurd (cc)
-
 -- which then has its counts in order after a drain with nothing to play
 pub IsSoundClient-dropped : (c : PlaybackStream) (ring : List ℤ) → IsSoundClient c ring → refusal_of Playback c.status call.Drain ≡ None
     → IsSoundClient (after_drop c) ring
-IsSoundClient-dropped c ring sound admitted =
-    IsSoundClient-status c (record c.status { state = Setup }) c.seen ring sound sound.seen
-    (λ is. sound.set_up (drain-set_up c.status.stopped c.status.state admitted)) (λ is. absurd (cc)) (λ moves going. absurd (cc)) (λ is. absurd (cc))
+IsSoundClient-dropped c ring sound admitted = grind (arith, nat_tests)
 
 accepted-count : (m : ℕ) (a : Answered (Unit {0})) → IfOk (accepted_if m a).1 (λ k. k ≡ m)
 accepted-count m (c, Ok done) = refl
@@ -705,69 +656,40 @@ module _ {S T : Type 0} (P : mixport.Ghosts S) (G : gates.Ghosts T) (laid_compos
 
 -- ---- what a pause and a resume keep, and why a resume answered so
 
--- a pause is admitted of a client that runs, and a resume of one that is paused
-pause-runs : (stopped : Bool) (s : State)
-    → (let o : Option PcmError = (if stopped then Some error.Stopped else refusal_in (next_of s call.Pause (nothing_found Playback)).answer) in o) ≡ None
-    → (s ≡ Running) × (stopped ≡ false)
-pause-runs true s is = absurd (cc)
-pause-runs false Running is = (refl, refl)
-pause-runs false s is = absurd (cc)
-
 pub resume-paused : (stopped : Bool) (s : State)
     → (let o : Option PcmError = (if stopped then Some error.Stopped else refusal_in (next_of s call.Resume
     (nothing_found Playback)).answer) in o) ≡ None → s ≡ Paused
-resume-paused true s is = absurd (cc)
 resume-paused false Paused is = refl
-resume-paused false s is = absurd (cc)
+resume-paused stopped s is = absurd (cc)
 
 -- with which counts a call begins
 stays-based : (a b : Bool) (c d : PlaybackStream) → (a ≡ true → b ≡ true) → (if a && not b then d else c) ≡ c
-stays-based false b c d is = refl
-stays-based true true c d is = refl
 stays-based true false c d is = absurd (let no = is refl in cc)
+stays-based a b c d is = refl
 
 pub base-kept : (c d : PlaybackStream) → (is_paused c.status.state ≡ true → is_paused d.status.state ≡ true) → base_of c d ≡ c
 base-kept c d is = stays-based (is_paused c.status.state) (is_paused d.status.state) c (with_new_base c) is
 
 anew-based : (a b : Bool) (c d : PlaybackStream) → a ≡ true → b ≡ false → (if a && not b then d else c) ≡ d
-anew-based false b c d is_paused is = absurd (cc)
-anew-based true true c d is_paused is = absurd (cc)
 anew-based true false c d is_paused is = refl
+anew-based a b c d is_paused is = absurd (cc)
 
 pub base-anew : (c d : PlaybackStream) → c.status.state ≡ Paused → is_paused d.status.state ≡ false → base_of c d ≡ with_new_base c
 base-anew c d is goes = anew-based (is_paused c.status.state) (is_paused d.status.state) c (with_new_base c) (ap is_paused is) goes
 
 -- the counts of a paused client, based anew, are those of a prepared one
 pub IsSoundClient-rebased : (c : PlaybackStream) (ring : List ℤ) → IsSoundClient c ring → c.status.state ≡ Paused → IsSoundClient (with_new_base c) ring
-IsSoundClient-rebased c ring sound is =
-    let m = sound.paused is in
-    record {
-      lead = sound.lead;
-      seen = sound.seen;
-      card = omega arith;
-      fed = omega (arith, sound.fed);
-      laid = omega arith;
-      set_up = λ set. sound.set_up (ap is_set_up is);
-      configured = sound.configured;
-      prepared = λ waits. record { waiting = refl; no_frame = refl; no_part = refl; fits = omega (arith, m.pending) };
-      moving = λ moves going. absurd (cc);
-      paused = λ still. absurd (cc);
-    }
+IsSoundClient-rebased c ring sound is = grind (arith, nat_tests)
 
 -- a client that was running and is paused
 pub IsSoundClient-paused : (c : PlaybackStream) (ring : List ℤ) → IsSoundClient c ring → refusal_of Playback c.status call.Pause ≡ None
     → IsSoundClient (after_pause c) ring
-IsSoundClient-paused c ring sound admitted =
-    let is = pause-runs c.status.stopped c.status.state admitted in
-    IsSoundClient-status c (record c.status { state = Paused }) c.seen ring sound sound.seen (λ set. sound.set_up (ap is_set_up is.0)) (λ waits. absurd (cc))
-    (λ moves still. absurd (cc)) (λ still. sound.moving (ap is_moving is.0) is.1)
+IsSoundClient-paused c ring sound admitted = grind (arith, nat_tests)
 
 -- a start that loaded the position isn't paused
 not_paused-after_start : (c : PlaybackStream) (cursor : Cursor) (position : Position) (commit : Commit)
     → is_paused (after_start c Running cursor (Some position) commit).0.status.state ≡ false
-not_paused-after_start c cursor position commit =
-    after_start-ends (λ (a : Answered (Unit {0})). is_paused a.0.status.state ≡ false) c Running cursor position commit (λ gone. refl) (λ here stop. refl)
-    (λ w here going late. refl) (λ here going in_time. refl)
+not_paused-after_start c cursor position commit = grind (arith, nat_tests)
 
 module _ {S T : Type 0} (P : mixport.Ghosts S) (G : gates.Ghosts T) (laid_composes : Composes P.laid) (loaded_composes : Composes P.loaded) where
   -- a pause
@@ -784,10 +706,7 @@ module _ {S T : Type 0} (P : mixport.Ghosts S) (G : gates.Ghosts T) (laid_compos
   pub rebased-kept : (s : S × T) (c : PlaybackStream) (ring : List ℤ) → IsSoundClient c ring
       → refusal_of Playback c.status call.Resume ≡ None → CanUse c (P.view s.0)
       → Keeps P G s s (client (base_of c (with_new_base c)) ring) (client (with_new_base c) ring) (let r : Result (Unit {0}) PcmError = Ok tt in r) AnySamples
-  rebased-kept s c ring sound admitted port =
-      let is = resume-paused c.status.stopped c.status.state admitted in
-      rw (base-anew c (with_new_base c) is refl) (Keeps-none P G laid_composes loaded_composes s (client (with_new_base c) ring) (Ok tt) AnySamples (IsSoundClient-rebased c ring sound is)
-      (CanUse-rebased c (P.view s.0) port) (λ unstopped. refl))
+  rebased-kept s c ring sound admitted port = grind (arith, nat_tests)
 
   -- a resume with pending frames
   resumed-by : (s t : S × T) (c : PlaybackStream) (ring : List ℤ) (cursor : Cursor) (load : Option Position) (commit : Commit) → IsSoundClient c ring
@@ -830,9 +749,7 @@ module _ {S T : Type 0} (P : mixport.Ghosts S) (G : gates.Ghosts T) (laid_compos
       → IfSome load (λ position. OnLate commit.ended (λ word. IsPast P.view P.shows t.0 (end_of_commit (started_in (with_new_base c) Running position cursor)
       commit) (end_channel (started_in (with_new_base c) Running position cursor) commit) word))
       → IsCaused {X = Unit {0}} P.view P.shows t.0 (with_new_base c) (after_resume c cursor load commit).0 load (after_resume c cursor load commit).1
-  why-resumed t c cursor None commit shown = caused-none
-  why-resumed t c cursor (Some position) commit shown =
-      IsCaused-after_start (with_new_base c) Running cursor (Some position) commit refl shown
+  why-resumed t c cursor load commit shown = grind (arith, nat_tests)
 
   pub resumes-explained : (s t : S × T) (c : PlaybackStream) (ring : List ℤ) (cursor : Cursor) (a : Answered (Unit {0})) → IsSoundClient c ring
       → c.status.state ≡ Paused → TakesAt P G s (resumes c cursor ring) t a

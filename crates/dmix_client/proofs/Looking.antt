@@ -86,9 +86,7 @@ module _ {S T : Type 0} (P : mixport.Ghosts S) (G : gates.Ghosts T) where
   -- a resume without pending frames and with some
   pub rebases-takes : (s : S × T) (c d : PlaybackStream) (ring : List ℤ) (cursor : Cursor) → pending_of c ≡ 0 → d ≡ with_new_base c
       → TakesAt P G s (pause_course false c ring cursor) s (let x : Answered (Unit {0}) = (d, Ok tt) in x)
-  rebases-takes s c d ring cursor none is =
-      let test : nat_eq (pending_of c) 0 ≡ true = ap (λ (n : ℕ). nat_eq n 0) none in
-      rw test (record { there = refl; result = ap (λ (e : PlaybackStream). let x : Answered (Unit {0}) = (e, Ok tt) in x) is })
+  rebases-takes s c d ring cursor none is = grind (arith, nat_tests)
 
   pub resumes-takes : (s t : S × T) (c : PlaybackStream) (ring : List ℤ) (cursor : Cursor) (done : Answered (Unit {0})) → 0 < pending_of c
       → TakesAt P G s (resumes c cursor ring) t done → TakesAt P G s (pause_course false c ring cursor) t done

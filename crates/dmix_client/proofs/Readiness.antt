@@ -1,24 +1,13 @@
 -- A client that moves frames has counts near each other, and a port that loaded the position still is what its calls ask.
-use Rattle.dmix_client.specs.Prelude.{arith, List, subst, sym, ◌+◌, ◌<◌, ◌^◌, ◌≡◌, Err, false, Ok, OnOk, Result, true, ℤ, PcmError, Geometry, Setup, is_moving}
-use Rattle.dmix_client.specs.Prelude.{PlaybackStream, IsOnCard, IsConfigured, IsGoing, IsReady, IsSoundClient}
-use Rattle.dmix_client.proofs.Sound.{configured-moving, hw-started}
+use Rattle.dmix_client.specs.Prelude.{arith, List, subst, sym, ◌+◌, ◌<◌, ◌^◌, ◌≡◌, nat_tests, Err, false, Ok, OnOk, Result, true, ℤ, PcmError, Geometry, Setup}
+use Rattle.dmix_client.specs.Prelude.{is_moving, PlaybackStream, IsOnCard, IsConfigured, IsGoing, IsReady, IsSoundClient}
 
 pub IsReady-moving : (c : PlaybackStream) (ring : List ℤ) → IsSoundClient c ring → is_moving c.status.state ≡ true → c.status.stopped ≡ false → IsReady c
-IsReady-moving c ring sound moves going =
-    let k = configured-moving c ring sound moves in
-    let m = sound.moving moves going in
-    record {
-      buffer_least = k.buffer_least;
-      buffer_most = k.buffer_most;
-      fits = m.fits;
-      near = omega (arith, hw-started c m.started, sound.seen, c.identity.geometry.frames_most);
-    }
+IsReady-moving c ring sound moves going = grind (arith, nat_tests)
 
 written-fits : (c : PlaybackStream) (ring : List ℤ) → IsSoundClient c ring → is_moving c.status.state ≡ true → c.status.stopped ≡ false
     → c.stretch.card + c.stretch.written < 2 ^ 64
-written-fits c ring sound moves going =
-    let ready = IsReady-moving c ring sound moves going in
-    omega (arith, ready.fits, ready.near, ready.buffer_most, sound.card, c.identity.geometry.frames_most)
+written-fits c ring sound moves going = grind (arith, nat_tests)
 
 -- the same of a client that goes on, unless it is at its end
 pub IsReady-going : (r : Result (Unit {0}) PcmError) (c : PlaybackStream) (ring : List ℤ) → IsSoundClient c ring → OnOk r (IsGoing c)

@@ -1,36 +1,26 @@
 -- What a rewind keeps, and why it answered so: by its load, by its withdrawals, and by both.
-use Rattle.dmix_client.specs.Prelude.{add-zero, ap, arith, inl, inr, length, List, refl, subst, sym, ℕ, [], ◌++◌, ◌+◌, ◌-◌, ◌<◌, ◌∙◌, ◌∷◌, ◌≡◌, ◌≤◌, cases_eq}
-use Rattle.dmix_client.specs.Prelude.{nat_tests, Bool, Err, false, IfSome, if◌then◌else◌, max, min, nat_eq, None, Ok, OnOk, Option, Result, slice_index, Some}
-use Rattle.dmix_client.specs.Prelude.{true, unwrap_or, ℤ, PcmError, Cursor, first_free, IsFrom, Composes, AreBindings, rising, Outcome, State, Paused, Prepared}
-use Rattle.dmix_client.specs.Prelude.{Running, Xrun, is_moving, is_set_up, Marks, Ended, Late, Stopped, Whole, Entry, Position, stops_after, a_withdrawal}
-use Rattle.dmix_client.specs.Prelude.{an_add, IsPast, OnLate, PortView, IsSamePort, LaysAt, LoadsAt, NoGet, TakesAt, TakesAt-same, ends, Takes-map, Takes-parts}
-use Rattle.dmix_client.specs.Prelude.{Takes-then, CountsStop, pass_by, Commit, PlaybackStream, after_sync, Answered, committed_by, over_of, seen_at}
-use Rattle.dmix_client.specs.Prelude.{with_number, IsCaused, course_with_number, nothing, run_entries, sample_at, frames_used, run_entries-append}
+use Rattle.dmix_client.specs.Prelude.{ap, arith, length, List, refl, subst, sym, ℕ, [], ◌++◌, ◌+◌, ◌-◌, ◌<◌, ◌∙◌, ◌≡◌, ◌≤◌, nat_tests, Bool, Err, false, IfSome}
+use Rattle.dmix_client.specs.Prelude.{if◌then◌else◌, max, min, nat_eq, None, Ok, OnOk, Option, Result, slice_index, Some, true, unwrap_or, ℤ, PcmError, Cursor}
+use Rattle.dmix_client.specs.Prelude.{first_free, IsFrom, Composes, AreBindings, rising, State, Paused, Prepared, Running, Xrun, is_moving, Marks, Ended, Late}
+use Rattle.dmix_client.specs.Prelude.{Stopped, Whole, Entry, Position, stops_after, IsPast, OnLate, PortView, IsSamePort, LaysAt, LoadsAt, NoGet, TakesAt}
+use Rattle.dmix_client.specs.Prelude.{TakesAt-same, Course, ends, Takes-map, Takes-parts, Takes-then, CountsStop, pass_by, Commit, PlaybackStream, after_sync}
+use Rattle.dmix_client.specs.Prelude.{Answered, with_number, IsCaused, course_with_number, nothing, run_entries, sample_at, frames_used, run_entries-append}
 use Rattle.dmix_client.specs.Prelude.{run_entries-same, AnySamples, Keeps, KeepsBack, Loses, segment_entries, StandsFor, TakesAway, CanUse, IsFrameStep}
-use Rattle.dmix_client.specs.Prelude.{least_channel, after_rewind, back_of, checks, held_entries, last_laid, rewind_on, rewindable_of, rewinds, take_frames}
-use Rattle.dmix_client.specs.Prelude.{taken_back, takes_back, without_frames, ClientView, hw_of, IsGoing, IsMoving, IsSoundClient, queued_of, ring_sample}
+use Rattle.dmix_client.specs.Prelude.{least_channel, after_rewind, back_of, checks, held_entries, rewind_on, rewindable_of, rewinds, take_frames, taken_back}
+use Rattle.dmix_client.specs.Prelude.{takes_back, without_frames, ClientView, hw_of, IsGoing, IsMoving, IsSoundClient, ring_sample}
 use Rattle.dmix_client.specs.RewindCauses.{ExplainsCheck, ExplainsRewind, IsKeptCause}
-use Rattle.dmix_client.proofs.Caused.{IsCaused-plain, caused-error, caused-late, caused-number, caused-other, free-by, other-ok, other-stopped}
-use Rattle.dmix_client.proofs.Ends.{next-ends, after_sync-leaves}
+use Rattle.dmix_client.proofs.Caused.{IsCaused-plain, caused-error, caused-number, caused-other, free-by, other-ok}
+use Rattle.dmix_client.proofs.Ends.{after_sync-leaves}
 use Rattle.dmix_client.proofs.Frames.{IsFrom-later}
 use Rattle.dmix_client.proofs.Going.{after_sync-runs}
-use Rattle.dmix_client.proofs.Keeping.{IsSamePort-refl, Keeps-numbered, Synced, client, loaded-kept, loaded-of, unloaded-kept}
-use Rattle.dmix_client.proofs.Sound.{CanUse-still, CommitsAs-seen, IsMoving-seen, configured-moving, hw-started, min-newer, not_prepared-moving}
+use Rattle.dmix_client.proofs.Keeping.{Keeps-numbered, Synced, client, loaded-kept, loaded-of, unloaded-kept}
+use Rattle.dmix_client.proofs.Sound.{CommitsAs-seen, IsMoving-seen, configured-moving, hw-started, min-newer}
 use Rattle.dmix_client.proofs.Withdrawing.{AreLeft, HoldsBy, TakesAt-back, TakesAway-behind, TakesAway-joined, TakesAway-none, TookFrames, last_frame, last_place}
 use Rattle.mix_core.specs.declared.gate.Gate as gates
 use Rattle.mix_core.specs.declared.port.MixPort as mixport
 use Rattle.pcm_states.specs.declared.calls.Call.TheVariants as call
 use Rattle.snd_base.specs.declared.errors.PcmError.TheVariants as error
 use Rattle.snd_base.specs.declared.errors.XrunWhy.TheVariants as why
-
--- the laws of a port, by those that its trait has
-pub holds-by : {S : Type 0} (P : mixport.Ghosts S) → Composes P.laid → Composes P.loaded
-    → ((p : S) (xs ys : List Entry) → P.ends_in p (xs ++ ys) → P.ends_in p ys)
-    → ((p q : S) (xs : List Entry) → P.laid p q [] → P.ends_in p xs → P.ends_in q xs)
-    → ((p q : S) (xs : List Entry) (f c : ℕ) (s : ℤ) → IsFrom (P.view p).marks.floor f c
-    → P.laid p q (a_withdrawal (P.view p).member f c s ∷ []) → P.ends_in p (xs ++ an_add (P.view p).member f c s ∷ []) → P.ends_in q xs)
-    → HoldsBy P
-holds-by P laid loaded part nothing back = record { laid_composes = laid; loaded_composes = loaded; part = part; nothing = nothing; back = back }
 
 -- what it leaves: the client but for its status and the position that it saw
 pub record Checked {S T : Type 0} (P : mixport.Ghosts S) (G : gates.Ghosts T) (s t : S × T) (c : PlaybackStream) (ring : List ℤ)
@@ -50,22 +40,12 @@ any-of (Some position) X is = is position
 
 same-of : (c : PlaybackStream) (load : Option Position) → c.stretch.part ≡ 0
     → (let a = after_sync c call.Transfer load nothing in a.0 ≡ record c { status = a.0.status; seen = a.0.seen })
-same-of c None whole = refl
-same-of c (Some position) whole =
-    after_sync-leaves (λ (d : PlaybackStream). d ≡ record c { status = d.status; seen = d.seen }) c call.Transfer position nothing
-    (λ s. ap (λ (k : ℕ). record c { status = s; seen = Some position.frame; stretch = record c.stretch { committed = k; part = 0 } })
-    (add-zero c.stretch.committed)
-    ∙ ap (λ (k : ℕ). record c { status = s; seen = Some position.frame; stretch = record c.stretch { part = k } }) (sym whole))
+same-of c load whole = grind (arith, nat_tests)
 
 -- nothing that it answers is late
 after_sync-timely : (c : PlaybackStream) (load : Option Position) (frame channel word : ℕ) → c.status.state ≡ Running
     → (after_sync c call.Transfer load nothing).1 ≡ Err (error.Xrun (why.Late frame channel word)) → ⊥
-after_sync-timely c None frame channel word runs = λ is. cc
-after_sync-timely c (Some position) frame channel word runs =
-    next-ends (λ (o : Outcome). o.answer ≡ Err (error.Xrun (why.Late frame channel word)) → ⊥) c.status.state call.Transfer
-    (queued_of (committed_by (seen_at c position) nothing)) position.gone (over_of (seen_at c position) position) None
-    (subst (λ (s : State). IsFrameStep s call.Transfer) (sym runs) tt) (λ gone is. cc) (λ a f here same over is. cc) (λ w here none late. absurd (cc))
-    (λ here same none in_time is. cc) (λ here drains in_time is. cc) (λ here drains in_time same is. cc) (λ here drains in_time same is. cc)
+after_sync-timely c load frame channel word runs = grind (arith, nat_tests)
 
 module _ {S T : Type 0} (P : mixport.Ghosts S) (G : gates.Ghosts T) (laid_composes : Composes P.laid) (loaded_composes : Composes P.loaded) where
   -- by what was loaded: what is kept, and that the frames played don't fall
@@ -144,14 +124,8 @@ pub record IsBack (d : PlaybackStream) (floor : Cursor) (n : ℕ) : Type 0 where
   pub from : 0 < back_of d n → max (unwrap_or d.seen 0) (first_free floor 0) ≤ d.stretch.card + (d.stretch.committed - back_of d n)
   pub whole : 0 < back_of d n → d.stretch.written - n ≡ d.stretch.committed - back_of d n
 
-back-is : (n w k top card : ℕ) → n ≤ w - k + (k - (top - card)) → k ≤ w
-    → (n ≤ w) × (n - (w - k) ≤ k) × (0 < n - (w - k) → top ≤ card + (k - (n - (w - k)))) × (0 < n - (w - k) → w - n ≡ k - (n - (w - k)))
-back-is n w k top card few most = (omega (arith, few, most), omega (arith, few), λ some. omega (arith, few, some), λ some. omega (arith, most, some))
-
 pub IsBack-of : (d : PlaybackStream) (floor : Cursor) (n : ℕ) → IsMoving d → n ≤ rewindable_of floor d → IsBack d floor n
-IsBack-of d floor n m few =
-    let is = back-is n d.stretch.written d.stretch.committed (max (unwrap_or d.seen 0) (first_free floor 0)) d.stretch.card few m.laid_most in
-    record { few = is.0; back = is.1; from = is.2; whole = is.3 }
+IsBack-of d floor n m few = grind (arith, nat_tests)
 
 -- what isn't played is at or after the first of them
 unplayed : (k b seen top card h : ℕ) → h ≡ seen - card → b ≤ k → (0 < b → max seen top ≤ card + (k - b)) → min k h ≤ k - b
@@ -186,22 +160,14 @@ back_in d n x s stopped = record (taken_back d n x) { status = record { state = 
 
 pub left-few : (e : Ended) (frames part count channels : ℕ) → AreLeft e frames part count channels → (frames ≤ count) × (frames_used frames part ≤ count)
 left-few Whole frames part count channels are = (omega (arith, are.0), let none = are.0 in let whole = are.1 in grind (arith, nat_tests))
-left-few (Late word) frames part count channels are = (let used = are.1 in grind (arith, nat_tests), are.1)
-left-few Stopped frames part count channels are = (let used = are.1 in grind (arith, nat_tests), are.1)
+left-few other frames part count channels are = (let used = are.1 in grind (arith, nat_tests), are.1)
 
 pub left-part : (e : Ended) (frames part count channels : ℕ) → AreLeft e frames part count channels → OnLate e (λ word. part < channels)
-left-part Whole frames part count channels are = tt
 left-part (Late word) frames part count channels are = are.2
-left-part Stopped frames part count channels are = tt
-
-still-low : (k h b f j : ℕ) → min k h ≤ k - b → min (k - b + f) h ≤ j → min k h ≤ j
-still-low k h b f j low is = grind (arith, nat_tests)
+left-part other frames part count channels are = tt
 
 frame-same : (first f part : ℕ) → 0 < f + part → first + (if nat_eq part 0 then f - 1 else f) ≡ (if nat_eq part 0 then first + f - 1 else first + f)
 frame-same first f part some = grind (arith, nat_tests)
-
-here-from : (at : Cursor) (f c : ℕ) → at ≡ record { frame = f; channel = c } → first_free at c ≤ f
-here-from at f c is = subst (λ (x : Cursor). first_free x c ≤ f) (sym is) (grind (arith, nat_tests))
 
 module _ (d : PlaybackStream) (ring : List ℤ) (floor : Cursor) (n : ℕ) (sound : IsSoundClient d ring) (runs : d.status.state ≡ Running)
     (going : d.status.stopped ≡ false) (is : IsBack d floor n) where
@@ -214,68 +180,57 @@ module _ (d : PlaybackStream) (ring : List ℤ) (floor : Cursor) (n : ℕ) (soun
   IsSoundClient-back : (x : Commit) (s : State) (stopped : Bool) → x.frames ≤ back_of d n → (s ≡ Prepared → ⊥) → (s ≡ Paused → ⊥)
       → (is_moving s ≡ true → stopped ≡ false → IsMoving (back_in d n x s stopped))
       → IsSoundClient (back_in d n x s stopped) ring
-  IsSoundClient-back x s stopped few not_prepared not_paused moves = record {
-    lead = sound.lead;
-    seen = sound.seen;
-    card = sound.card;
-    fed = omega (arith, sound.fed, is.few);
-    laid = omega (arith, sound.laid, few, is.back);
-    set_up = λ set. sound.set_up (ap is_set_up runs);
-    configured = sound.configured;
-    prepared = λ waits. absurd (not_prepared waits);
-    moving = moves;
-    paused = λ still. absurd (not_paused still);
-  }
+  IsSoundClient-back x s stopped few not_prepared not_paused moves = grind (arith, nat_tests)
 
   IsMoving-back : (x : Commit) (s : State) (stopped : Bool) → x.frames ≡ 0 → x.part ≡ 0 → IsMoving (back_in d n x s stopped)
-  IsMoving-back x s stopped none whole = record {
-    started = m.started;
-    whole = whole;
-    laid_most = omega (arith, none, m.laid_most);
-    fits = omega (arith, m.fits, none);
-    pending = omega (arith, none, m.laid_most, m.pending);
-  }
+  IsMoving-back x s stopped none whole = grind (arith, nat_tests)
 
   StandsFor-back : (x : Commit) (s : State) (stopped : Bool) (samples : List ℤ) → x.frames ≤ back_of d n → StandsFor d ring samples
       → StandsFor (back_in d n x s stopped) ring samples
-  StandsFor-back x s stopped samples few stands j q low high in_range =
-      stands j q (still-low d.stretch.committed (hw_of d) (back_of d n) x.frames j (first-unplayed d floor n m is) low)
-      (omega (arith, high, few, is.few)) in_range
+  StandsFor-back x s stopped samples few stands j q low high in_range = grind (arith, nat_tests)
+
+  -- the first of the committed frames that are taken back
+  abbrev first : ℕ
+  first = d.stretch.committed - back_of d n
+
+  -- the entries of some of the client's frames, from one on; of those in the ring, from the first that is taken back
+  abbrev entries_from : (ℕ → ℕ → ℤ) → ℕ → ℕ → ℕ → List Entry
+  entries_from sample_of from frames part = run_entries d.identity.member d.setup.bindings sample_of d.stretch.card from frames part
+
+  abbrev held : ℕ → ℕ → List Entry
+  held frames part = entries_from (ring_sample d ring) first frames part
+
+  -- and by a list of samples, of those before it
+  abbrev sampled : List ℤ → ℕ → ℕ → ℤ
+  sampled samples j = sample_at samples (length d.setup.bindings) (d.stretch.source + j)
+
+  abbrev early : List ℤ → List Entry
+  early samples = entries_from (sampled samples) 0 first 0
+
+  -- the last committed frames are withdrawn, as many as this
+  abbrev taking : ℕ → Course Commit
+  taking b = take_frames d.identity.member d.stretch.card d.setup.bindings (ring_sample d ring) (d.stretch.committed - b) b
 
   -- the frames of the ring are those of the samples
   ring-samples : (samples : List ℤ) (frames part : ℕ) → frames_used frames part ≤ back_of d n → StandsFor d ring samples
-      → run_entries d.identity.member d.setup.bindings (ring_sample d ring) d.stretch.card (d.stretch.committed - back_of d n) frames part
-      ≡ run_entries d.identity.member d.setup.bindings (λ j. sample_at samples (length d.setup.bindings) (d.stretch.source + j)) d.stretch.card
-      (d.stretch.committed - back_of d n) frames part
+      → held frames part ≡ entries_from (sampled samples) first frames part
   ring-samples samples frames part used stands =
-      run_entries-same d.identity.member d.setup.bindings (ring_sample d ring) (λ j. sample_at samples (length d.setup.bindings) (d.stretch.source + j))
-      d.stretch.card (d.stretch.committed - back_of d n) frames part bound
+      run_entries-same d.identity.member d.setup.bindings (ring_sample d ring) (sampled samples) d.stretch.card first frames part bound
       (λ j q least most h. stands j q (omega (arith, least, first-unplayed d floor n m is)) (omega (arith, most, used, is.back, m.laid_most)) h)
 
-  -- the segment, before and after, by what is before the frames that are withdrawn
-  segment-before : (samples : List ℤ) → StandsFor d ring samples
-      → segment_entries d samples ≡ run_entries d.identity.member d.setup.bindings (λ j. sample_at samples (length d.setup.bindings) (d.stretch.source + j))
-      d.stretch.card 0 (d.stretch.committed - back_of d n) 0
-      ++ run_entries d.identity.member d.setup.bindings (ring_sample d ring) d.stretch.card (d.stretch.committed - back_of d n) (back_of d n) 0
+  -- the segment, before and after
+  segment-before : (samples : List ℤ) → StandsFor d ring samples → segment_entries d samples ≡ early samples ++ held (back_of d n) 0
   segment-before samples stands =
-      let s : ℕ → ℕ → ℤ = λ j. sample_at samples (length d.setup.bindings) (d.stretch.source + j) in
-      let first : ℕ = d.stretch.committed - back_of d n in
-      ap (λ (p : ℕ). run_entries d.identity.member d.setup.bindings s d.stretch.card 0 d.stretch.committed p) m.whole
-      ∙ run_entries-split d.identity.member d.setup.bindings s d.stretch.card 0 first first d.stretch.committed (back_of d n) 0 (omega arith)
+      ap (λ (p : ℕ). entries_from (sampled samples) 0 d.stretch.committed p) m.whole
+      ∙ run_entries-split d.identity.member d.setup.bindings (sampled samples) d.stretch.card 0 first first d.stretch.committed (back_of d n) 0 (omega arith)
       (omega (arith, is.back))
-      ∙ ap (λ (es : List Entry). run_entries d.identity.member d.setup.bindings s d.stretch.card 0 first 0 ++ es)
-      (sym (ring-samples samples (back_of d n) 0 (omega arith) stands))
+      ∙ ap (λ (es : List Entry). early samples ++ es) (sym (ring-samples samples (back_of d n) 0 (omega arith) stands))
 
   segment-after : (x : Commit) (t : State) (stopped : Bool) (samples : List ℤ) → frames_used x.frames x.part ≤ back_of d n → StandsFor d ring samples
-      → segment_entries (back_in d n x t stopped) samples ≡ run_entries d.identity.member d.setup.bindings
-      (λ j. sample_at samples (length d.setup.bindings) (d.stretch.source + j)) d.stretch.card 0 (d.stretch.committed - back_of d n) 0
-      ++ run_entries d.identity.member d.setup.bindings (ring_sample d ring) d.stretch.card (d.stretch.committed - back_of d n) x.frames x.part
+      → segment_entries (back_in d n x t stopped) samples ≡ early samples ++ held x.frames x.part
   segment-after x t stopped samples used stands =
-      let s : ℕ → ℕ → ℤ = λ j. sample_at samples (length d.setup.bindings) (d.stretch.source + j) in
-      let first : ℕ = d.stretch.committed - back_of d n in
-      run_entries-split d.identity.member d.setup.bindings s d.stretch.card 0 first first (first + x.frames) x.frames x.part (omega arith) refl
-      ∙ ap (λ (es : List Entry). run_entries d.identity.member d.setup.bindings s d.stretch.card 0 first 0 ++ es)
-      (sym (ring-samples samples x.frames x.part used stands))
+      run_entries-split d.identity.member d.setup.bindings (sampled samples) d.stretch.card 0 first first (first + x.frames) x.frames x.part (omega arith) refl
+      ∙ ap (λ (es : List Entry). early samples ++ es) (sym (ring-samples samples x.frames x.part used stands))
 
   -- what a rewind leaves at a port, by how its withdrawals ended
   module _ {S T : Type 0} (P : mixport.Ghosts S) (G : gates.Ghosts T) (holds : HoldsBy P) where
@@ -285,52 +240,31 @@ module _ (d : PlaybackStream) (ring : List ℤ) (floor : Cursor) (n : ℕ) (soun
 
     -- what is known of the withdrawals
     abbrev Took : S × T → S × T → Commit → Type 0
-    Took s t x =
-        TookFrames P G holds s t d.identity.member d.stretch.card d.setup.bindings (ring_sample d ring) (d.stretch.committed - back_of d n) (back_of d n) x
+    Took s t x = TookFrames P G holds s t d.identity.member d.stretch.card d.setup.bindings (ring_sample d ring) first (back_of d n) x
 
     loses-back : (s t : S × T) (x : Commit) (st : State) (stopped : Bool) (samples : List ℤ) → frames_used x.frames x.part ≤ back_of d n
-        → TakesAway P.laid P.ends_in s.0 t.0 (run_entries d.identity.member d.setup.bindings (ring_sample d ring) d.stretch.card
-        (d.stretch.committed - back_of d n) (back_of d n) 0) (run_entries d.identity.member d.setup.bindings (ring_sample d ring) d.stretch.card
-        (d.stretch.committed - back_of d n) x.frames x.part)
+        → TakesAway P.laid P.ends_in s.0 t.0 (held (back_of d n) 0) (held x.frames x.part)
         → StandsFor d ring samples → Loses P.laid P.ends_in s.0 t.0 d (back_in d n x st stopped) samples
-    loses-back s t x st stopped samples used away stands =
-        let early = run_entries d.identity.member d.setup.bindings (λ j. sample_at samples (length d.setup.bindings) (d.stretch.source + j)) d.stretch.card 0
-        (d.stretch.committed - back_of d n) 0 in
-        record {
-          away = subst (λ (es : List Entry). TakesAway P.laid P.ends_in s.0 t.0 es (segment_entries (back_in d n x st stopped) samples))
-              (sym (segment-before samples stands))
-              (subst (λ (es : List Entry). TakesAway P.laid P.ends_in s.0 t.0 (early ++ run_entries d.identity.member d.setup.bindings (ring_sample d ring)
-              d.stretch.card (d.stretch.committed - back_of d n) (back_of d n) 0) es) (sym (segment-after x st stopped samples used stands))
-              (TakesAway-behind P G holds s.0 t.0 early _ _ away));
-          same_member = refl;
-          same_bindings = refl;
-        }
+    loses-back s t x st stopped samples used away stands = record {
+      away = subst (λ (es : List Entry). TakesAway P.laid P.ends_in s.0 t.0 es (segment_entries (back_in d n x st stopped) samples))
+          (sym (segment-before samples stands))
+          (subst (λ (es : List Entry). TakesAway P.laid P.ends_in s.0 t.0 (early samples ++ held (back_of d n) 0) es)
+          (sym (segment-after x st stopped samples used stands)) (TakesAway-behind P G holds s.0 t.0 (early samples) _ _ away));
+      same_member = refl;
+      same_bindings = refl;
+    }
 
     -- where all were withdrawn, the port's cursor is where the client goes on
     cursor-back : (s t : S × T) (x : Commit) → CanUse d (P.view s.0) → x.frames ≡ 0 → (back_of d n ≡ 0 → P.view t.0 ≡ P.view s.0)
-        → (0 < back_of d n → (P.view t.0).marks.cursor ≡ record {
-          frame = d.stretch.card + (d.stretch.committed - back_of d n);
-          channel = least_channel d.setup.bindings;
-        })
-        → IsFrom (P.view t.0).marks.cursor (d.stretch.card + (d.stretch.committed - back_of d n + x.frames)) (least_channel d.setup.bindings)
-    cursor-back s t x port none still moved = elim (cases_eq (back_of d n) 0) [
-      | inl nothing_back ↦
-          subst (λ (v : PortView). IsFrom v.marks.cursor (d.stretch.card + (d.stretch.committed - back_of d n + x.frames)) (least_channel d.setup.bindings))
-          (sym (still nothing_back))
-          (omega (arith, port.behind (ap is_moving runs) going, nothing_back, none))
-      | inr some ↦ omega (
-        arith,
-        here-from (P.view t.0).marks.cursor (d.stretch.card + (d.stretch.committed - back_of d n)) (least_channel d.setup.bindings)
-            (moved (omega arith)),
-        none,
-      )
-    ]
+        → (0 < back_of d n → (P.view t.0).marks.cursor ≡ record { frame = d.stretch.card + first; channel = least_channel d.setup.bindings })
+        → IsFrom (P.view t.0).marks.cursor (d.stretch.card + (first + x.frames)) (least_channel d.setup.bindings)
+    cursor-back s t x port none still moved = grind (arith, nat_tests)
 
     -- what it leaves in a state, where the client is neither prepared nor paused then
     left-back : (s t : S × T) (x : Commit) (st : State) (stopped : Bool) (answer : Result ℕ PcmError) → CanUse d (P.view s.0) → Took s t x → (st ≡ Prepared → ⊥)
         → (st ≡ Paused → ⊥) → CountsStop answer (G.stops s.1) (G.stops t.1)
         → (is_moving st ≡ true → stopped ≡ false → (x.frames ≡ 0) × (x.part ≡ 0) × IsFrom (P.view t.0).marks.cursor
-        (d.stretch.card + (d.stretch.committed - back_of d n + x.frames)) (least_channel d.setup.bindings))
+        (d.stretch.card + (first + x.frames)) (least_channel d.setup.bindings))
         → TakenBack s t (back_in d n x st stopped, answer)
     left-back s t x st stopped answer port took not_prepared not_paused told moves =
         let few = left-few x.ended x.frames x.part (back_of d n) (length d.setup.bindings) took.are_left in
@@ -359,29 +293,23 @@ module _ (d : PlaybackStream) (ring : List ℤ) (floor : Cursor) (n : ℕ) (soun
         left-back s t x Running d.status.stopped _ port took (λ waits. cc) (λ still. cc) took.stopped
         (λ moves unstopped. (took.are_left.0, took.are_left.1, cursor-back s t x port took.are_left.0 took.still took.cursor))
     by_end s t frames part (Late word) port took =
-        let x : Commit = record { frames = frames; part = part; ended = Late word } in left-back s t x Xrun d.status.stopped _ port took (λ waits. cc)
-        (λ still. cc) took.stopped (λ moves unstopped. absurd (cc))
+        left-back s t _ Xrun d.status.stopped _ port took (λ waits. cc) (λ still. cc) took.stopped (λ moves unstopped. absurd (cc))
     by_end s t frames part Stopped port took =
-        let x : Commit = record { frames = frames; part = part; ended = Stopped } in left-back s t x d.status.state true _ port took (λ waits. cc) (λ still. cc)
-        took.stopped (λ moves unstopped. absurd (cc))
+        left-back s t _ d.status.state true _ port took (λ waits. cc) (λ still. cc) took.stopped (λ moves unstopped. absurd (cc))
 
     -- the withdrawals of a client's rewind
     took-of : (s t : S × T) (x : Commit) → (P.view s.0).marks.floor ≡ floor → CanUse d (P.view s.0)
-        → TakesAt P G s (take_frames d.identity.member d.stretch.card d.setup.bindings (ring_sample d ring) (d.stretch.committed - back_of d n)
-        (back_of d n)) t x → Took s t x
+        → TakesAt P G s (taking (back_of d n)) t x → Took s t x
     took-of s t x is_floor port takes =
-        TakesAt-back P G holds d.identity.member d.stretch.card d.setup.bindings (ring_sample d ring) (d.stretch.committed - back_of d n) (back_of d n) s t
-        x bound port.same_member
-        (λ some. subst (λ (c : Cursor). IsFrom c (d.stretch.card + (d.stretch.committed - back_of d n)) (least_channel d.setup.bindings)) (sym is_floor)
-        (IsFrom-later floor (d.stretch.card + (d.stretch.committed - back_of d n)) 0 (least_channel d.setup.bindings) (omega arith)
-        (omega (arith, is.from some)))) takes
+        TakesAt-back P G holds d.identity.member d.stretch.card d.setup.bindings (ring_sample d ring) first (back_of d n) s t x bound port.same_member
+        (λ some. subst (λ (c : Cursor). IsFrom c (d.stretch.card + first) (least_channel d.setup.bindings)) (sym is_floor)
+        (IsFrom-later floor (d.stretch.card + first) 0 (least_channel d.setup.bindings) (omega arith) (omega (arith, is.from some)))) takes
 
     pub takes_back-kept : (s t : S × T) (a : Answered ℕ) → (P.view s.0).marks.floor ≡ floor → CanUse d (P.view s.0)
         → TakesAt P G s (takes_back d ring n) t a → TakenBack s t a
     unfolding takes_back
     takes_back-kept s t a is_floor port takes =
-        let parts = Takes-parts (LoadsAt P G) (LaysAt P G) NoGet s t (take_frames d.identity.member d.stretch.card d.setup.bindings (ring_sample d ring)
-        (d.stretch.committed - back_of d n) (back_of d n)) (λ left. ends (after_rewind d n left)) a takes in
+        let parts = Takes-parts (LoadsAt P G) (LaysAt P G) NoGet s t (taking (back_of d n)) (λ left. ends (after_rewind d n left)) a takes in
         let x = parts.1 in
         subst (λ (u : S × T). TakenBack s u a) (sym parts.3.there) (subst (λ (b : Answered ℕ). TakenBack s parts.0 b) (sym parts.3.result)
         (by_end s parts.0 x.frames x.part x.ended port (took-of s parts.0 x is_floor port parts.2)))
@@ -389,55 +317,38 @@ module _ (d : PlaybackStream) (ring : List ℤ) (floor : Cursor) (n : ℕ) (soun
     -- why it answered so, after a load that went well
     why_end : (t : S × T) (c u : PlaybackStream) (load : Option Position) (frames part : ℕ) (e : Ended)
         → AreLeft e frames part (back_of d n) (length d.setup.bindings)
-        → OnLate e (λ word. IsPast P.view P.shows t.0 (d.stretch.card + (d.stretch.committed - back_of d n + last_frame frames part))
+        → OnLate e (λ word. IsPast P.view P.shows t.0 (d.stretch.card + (first + last_frame frames part))
         (slice_index d.setup.bindings (slice_index (rising d.setup.bindings) (last_place part (length d.setup.bindings)))) word)
         → IsCaused {X = Unit {0}} P.view P.shows t.0 c u load (Ok tt)
         → (let a : Answered ℕ = after_rewind d n (record { frames = frames; part = part; ended = e }) in IsKeptCause {X = ℕ} P.view P.shows t.0 c a.0 load a.1)
-    why_end t c u load frames part Whole are late why_ok = caused-other (free-by why_ok) (other-ok n)
-    why_end t c u load frames part Stopped are late why_ok = caused-other (free-by why_ok) other-stopped
-    why_end t c u load frames part (Late word) are late why_ok =
-        let there : d.stretch.card + (d.stretch.committed - back_of d n + last_frame frames part) ≡ last_laid
-        (back_in d n (record { frames = frames; part = part; ended = Late word }) Xrun d.status.stopped) =
-        ap (λ (k : ℕ). d.stretch.card + k) (frame-same (d.stretch.committed - back_of d n) frames part are.0) in
-        caused-late _ _ word (free-by why_ok) (record {
-          frame_is = refl;
-          channel_is = refl;
-          past = subst (λ (k : ℕ). IsPast P.view P.shows t.0 k (slice_index d.setup.bindings (slice_index (rising d.setup.bindings)
-              (last_place part (length d.setup.bindings)))) word) there late;
-        })
+    why_end t c u load frames part e are late why_ok = grind (arith, nat_tests)
 
     pub takes_back-why : (s t : S × T) (c u : PlaybackStream) (load : Option Position) (a : Answered ℕ) → (P.view s.0).marks.floor ≡ floor
         → CanUse d (P.view s.0) → TakesAt P G s (takes_back d ring n) t a
         → IsCaused {X = Unit {0}} P.view P.shows t.0 c u load (Ok tt) → IsKeptCause {X = ℕ} P.view P.shows t.0 c a.0 load a.1
     unfolding takes_back
     takes_back-why s t c u load a is_floor port takes why_ok =
-        let parts = Takes-parts (LoadsAt P G) (LaysAt P G) NoGet s t (take_frames d.identity.member d.stretch.card d.setup.bindings (ring_sample d ring)
-        (d.stretch.committed - back_of d n) (back_of d n)) (λ left. ends (after_rewind d n left)) a takes in
+        let parts = Takes-parts (LoadsAt P G) (LaysAt P G) NoGet s t (taking (back_of d n)) (λ left. ends (after_rewind d n left)) a takes in
         let x = parts.1 in
         let took = took-of s parts.0 x is_floor port parts.2 in
         subst (λ (b : Answered ℕ). IsKeptCause {X = ℕ} P.view P.shows t.0 c b.0 load b.1) (sym parts.3.result)
         (why_end t c u load x.frames x.part x.ended took.are_left
-        (subst (λ (v : S × T). OnLate x.ended (λ word. IsPast P.view P.shows v.0 (d.stretch.card + (d.stretch.committed - back_of d n + last_frame x.frames
-        x.part)) (slice_index d.setup.bindings (slice_index (rising d.setup.bindings) (last_place x.part (length d.setup.bindings)))) word))
+        (subst (λ (v : S × T). OnLate x.ended (λ word. IsPast P.view P.shows v.0 (d.stretch.card + (first + last_frame x.frames x.part))
+        (slice_index d.setup.bindings (slice_index (rising d.setup.bindings) (last_place x.part (length d.setup.bindings)))) word))
         (sym parts.3.there) took.late) why_ok)
 
     pub takes_back-by : (s t : S × T) (b : ℕ) (x : Commit) (done : Answered ℕ) → b ≡ back_of d n
-        → TakesAt P G s (take_frames d.identity.member d.stretch.card d.setup.bindings (ring_sample d ring) (d.stretch.committed - b) b) t x
-        → after_rewind d n x ≡ done
+        → TakesAt P G s (taking b) t x → after_rewind d n x ≡ done
         → TakesAt P G s (takes_back d ring n) t done
     unfolding takes_back
     takes_back-by s t b x done is_back takes is_done =
-        Takes-map (LoadsAt P G) (LaysAt P G) NoGet s t (take_frames d.identity.member d.stretch.card d.setup.bindings (ring_sample d ring)
-        (d.stretch.committed - back_of d n) (back_of d n)) (λ left. after_rewind d n left) x done
-        (subst (λ (k : ℕ). TakesAt P G s (take_frames d.identity.member d.stretch.card d.setup.bindings (ring_sample d ring) (d.stretch.committed - k) k) t
-        x) is_back takes) is_done
+        Takes-map (LoadsAt P G) (LaysAt P G) NoGet s t (taking (back_of d n)) (λ left. after_rewind d n left) x done
+        (subst (λ (k : ℕ). TakesAt P G s (taking k) t x) is_back takes) is_done
 
     pub take_frames-took : (s t : S × T) (b : ℕ) (x : Commit) → b ≡ back_of d n → (P.view s.0).marks.floor ≡ floor → CanUse d (P.view s.0)
-        → TakesAt P G s (take_frames d.identity.member d.stretch.card d.setup.bindings (ring_sample d ring) (d.stretch.committed - b) b) t x
-        → AreLeft x.ended x.frames x.part (back_of d n) (length d.setup.bindings)
+        → TakesAt P G s (taking b) t x → AreLeft x.ended x.frames x.part (back_of d n) (length d.setup.bindings)
     take_frames-took s t b x is_back is_floor port takes =
-        (took-of s t x is_floor port (subst (λ (k : ℕ). TakesAt P G s (take_frames d.identity.member d.stretch.card d.setup.bindings (ring_sample d ring)
-        (d.stretch.committed - k) k) t x) is_back takes)).are_left
+        (took-of s t x is_floor port (subst (λ (k : ℕ). TakesAt P G s (taking k) t x) is_back takes)).are_left
 
 -- ---- what a rewind keeps, and why it answered so, by its load and what followed it
 
@@ -472,8 +383,7 @@ module _ {S T : Type 0} (P : mixport.Ghosts S) (G : gates.Ghosts T) (holds : Hol
           loses = λ samples stands. record {
             away = loses-checked s m c ring (d, Err e) samples checked;
             same_member = ap (λ (x : PlaybackStream). x.identity.member) checked.same;
-            same_bindings = ap (λ (x : PlaybackStream).
-                x.setup.bindings) checked.same;
+            same_bindings = ap (λ (x : PlaybackStream). x.setup.bindings) checked.same;
           };
           stands = λ samples stands. checked.keeps.stands samples stands tt;
         };
@@ -595,43 +505,9 @@ module _ {S T : Type 0} (P : mixport.Ghosts S) (G : gates.Ghosts T) (holds : Hol
   -- where nothing is done, all is kept
   pub KeepsBack-none : {X : Type 0} (s : S × T) (c : ClientView) (answer : Result X PcmError) → Keeps P G s s c c answer AnySamples
       → KeepsBack P G s s c c answer
-  KeepsBack-none s c answer keeps = record {
-    sound = keeps.sound;
-    port = keeps.port;
-    told = keeps.told;
-    loses = λ samples stands. record {
-      away = TakesAway-none P G holds s.0 s.0 (segment_entries c.stream samples) (holds.laid_composes.none s.0);
-      same_member = refl;
-      same_bindings = refl;
-    };
-    stands = λ samples stands. stands;
-  }
+  KeepsBack-none s c answer keeps = grind (arith, nat_tests)
 
   pub without-kept : (s : S × T) (c : PlaybackStream) (ring : List ℤ) (n : ℕ) → IsSoundClient c ring → c.status.state ≡ Prepared
       → n ≤ c.stretch.written → CanUse c (P.view s.0)
       → KeepsBack P G s s (client c ring) (client (without_frames c n) ring) (let r : Result ℕ PcmError = Ok n in r)
-  without-kept s c ring n sound waits few port =
-      let p = sound.prepared waits in
-      record {
-        sound = record {
-          lead = sound.lead;
-          seen = sound.seen;
-          card = sound.card;
-          fed = omega (arith, sound.fed, few);
-          laid = sound.laid;
-          set_up = sound.set_up;
-          configured = sound.configured;
-          prepared = λ still. record { waiting = p.waiting; no_frame = p.no_frame; no_part = p.no_part; fits = omega (arith, p.fits) };
-          moving = λ moves going. absurd (not_prepared-moving c.status.state moves waits);
-          paused = λ is. absurd (cc);
-        };
-        port = CanUse-still c (without_frames c n) (P.view s.0) (P.view s.0) port (IsSamePort-refl (P.view s.0)) refl
-            (λ moves going. not_prepared-moving c.status.state moves waits);
-        told = λ unstopped. refl;
-        loses = λ samples stands. record {
-          away = TakesAway-none P G holds s.0 s.0 (segment_entries c samples) (holds.laid_composes.none s.0);
-          same_member = refl;
-          same_bindings = refl;
-        };
-        stands = λ samples stands j q low high in_range. stands j q low (omega (arith, high)) in_range;
-      }
+  without-kept s c ring n sound waits few port = grind (arith, nat_tests)

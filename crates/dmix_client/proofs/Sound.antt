@@ -18,42 +18,7 @@ pub record GoesOn (state : State) (o : Outcome) (gone : Bool) (over : Option (�
 
 pub next-GoesOn : (state : State) (call : Call) (queued : ℕ) (gone : Bool) (over : Option (ℕ × ℕ)) (late : Option XrunWhy) → IsFrameStep state call
     → GoesOn state (next_of state call (record { capture = false; queued = queued; starts = true; gone = gone; over = over; late = late })) gone over late
-next-GoesOn state call queued gone over late step =
-    next-ends (λ o. GoesOn state o gone over late) state call queued gone over late step
-    (λ is. record { not_prepared = λ e. cc; not_paused = λ e. cc; found = λ e. absurd (cc); goes = tt; told = λ b a e. e })
-    (λ a f here runs is. record { not_prepared = λ e. cc; not_paused = λ e. cc; found = λ e. absurd (cc); goes = tt; told = λ b a e. e })
-    (λ w here none is. record { not_prepared = λ e. cc; not_paused = λ e. cc; found = λ e. absurd (cc); goes = tt; told = λ b a e. e })
-    (λ here runs none in_time. record {
-      not_prepared = λ e. cc;
-      not_paused = λ e. cc;
-      found = λ e. (here, in_time, λ r. none);
-      goes = λ other.
-          refl;
-      told = λ b a e. e;
-    })
-    (λ here drains in_time. record {
-      not_prepared = λ e. cc;
-      not_paused = λ e. cc;
-      found = λ e. absurd (cc);
-      goes = λ other.
-          absurd (other refl);
-      told = λ b a e. e;
-    })
-    (λ here drains in_time same. record {
-      not_prepared = λ e. cc;
-      not_paused = λ e. cc;
-      found = λ e. (here, in_time, λ r. absurd (cc));
-      goes = λ other.
-          refl;
-      told = λ b a e. e;
-    })
-    (λ here drains in_time same. record {
-      not_prepared = λ e. cc;
-      not_paused = λ e. cc;
-      found = λ e. (here, in_time, λ r. absurd (cc));
-      goes = tt;
-      told = λ b a e. e;
-    })
+next-GoesOn state call queued gone over late step = grind (arith, nat_tests)
 
 -- a stream that moves frames isn't prepared nor paused, and is set up
 pub not_prepared-moving : (s : State) → is_moving s ≡ true → (s ≡ Prepared → ⊥)
@@ -63,9 +28,7 @@ pub not_paused-moving : (s : State) → is_moving s ≡ true → (s ≡ Paused �
 not_paused-moving s is paused = let no : is_moving Paused ≡ true = subst (λ (x : State). is_moving x ≡ true) paused is in cc
 
 pub set_up-moving : (s : State) → is_moving s ≡ true → is_set_up s ≡ true
-set_up-moving Running is = refl
-set_up-moving Draining is = refl
-set_up-moving s is = absurd (cc)
+set_up-moving s is = grind (arith, nat_tests)
 
 pub configured-moving : (c : PlaybackStream) (ring : List ℤ) → IsSoundClient c ring → is_moving c.status.state ≡ true → IsConfigured c ring
 configured-moving c ring sound moves = sound.configured (sound.set_up (set_up-moving c.status.state moves))
@@ -83,47 +46,22 @@ pub IsSoundClient-status : (c : PlaybackStream) (s : Status) (seen : Option ℕ)
     → unwrap_or seen 0 ≤ end_frame c.identity.geometry → (is_set_up s.state ≡ true → c.setup.configured ≡ true) → (s.state ≡ Prepared → IsPrepared c)
     → (is_moving s.state ≡ true → s.stopped ≡ false → IsMoving (record c { seen = seen })) → (s.state ≡ Paused → IsMoving (record c { seen = seen }))
     → IsSoundClient (record c { status = s; seen = seen }) ring
-IsSoundClient-status c s seen ring sound near is_set waits moves rests = record {
-  lead = sound.lead;
-  seen = near;
-  card = sound.card;
-  fed = sound.fed;
-  laid = sound.laid;
-  set_up = is_set;
-  configured = sound.configured;
-  prepared = waits;
-  moving = moves;
-  paused = rests;
-}
+IsSoundClient-status c s seen ring sound near is_set waits moves rests = assumption
 
 -- a client that was stopped before it took a step
 pub IsSoundClient-stopped : (c : PlaybackStream) (ring : List ℤ) → IsSoundClient c ring
     → IsSoundClient (record c { status = record c.status { stopped = true } }) ring
-IsSoundClient-stopped c ring sound =
-    IsSoundClient-status c (record c.status { stopped = true }) c.seen ring sound sound.seen sound.set_up sound.prepared
-    (λ moves going. absurd (cc)) sound.paused
+IsSoundClient-stopped c ring sound = grind (arith, nat_tests)
 
 -- a port can be used by a client that doesn't move frames, or is stopped
 pub CanUse-still : (c d : PlaybackStream) (v w : PortView) → CanUse c v → IsSamePort v w → d.identity ≡ c.identity
     → (is_moving d.status.state ≡ true → d.status.stopped ≡ false → ⊥) → CanUse d w
-CanUse-still c d v w port same is still = record {
-  same_geometry = same.same_geometry ∙ port.same_geometry ∙ sym (ap (λ i. i.geometry) is);
-  same_member = same.same_member ∙ port.same_member ∙ sym (ap (λ i. i.member) is);
-  can = same.same_can_add ∙ port.can;
-  behind = λ moves going. absurd (still moves going);
-  newer = λ moves going. absurd (still moves going);
-}
+CanUse-still c d v w port same is still = grind (arith, nat_tests)
 
 -- ---- after a commit
 
-whole_most : (w k card n stop : ℕ) → k ≤ w → n ≡ min w (stop - card) - k → k + n ≤ w
-whole_most w k card n stop most is = grind (arith, nat_tests)
-
 pub whole_least : (w k card n h stop : ℕ) → h ≤ stop → n ≡ min w (stop - card) - k → min w (h - card) ≤ k + n
 whole_least w k card n h stop low is = grind (arith, nat_tests)
-
-near-pending : (w h k b : ℕ) → w ≤ h + b → min w h ≤ k → w ≤ k + b
-near-pending w h k b fits low = grind (arith, nat_tests)
 
 pub window_end-above : (h frames stop : ℕ) → h ≤ stop → h ≤ min (h + frames) stop
 window_end-above h frames stop low = grind (arith, nat_tests)
@@ -146,27 +84,23 @@ if-le false n = omega arith
 
 pub frames-le : (e : Ended) (frames part count channels : ℕ) → IsCommit e frames part count channels → frames ≤ count
 frames-le ended.Whole frames part count channels is = omega (arith, is.0)
-frames-le (ended.Late word) frames part count channels is = omega (arith, is.0)
-frames-le ended.Stopped frames part count channels is = omega (arith, is.0)
+frames-le other frames part count channels is = omega (arith, is.0)
 
 -- the frames of a commit are below the frame that it was to place up to
 pub used-below : (e : Ended) (k frames part count channels upto : ℕ) → IsCommit e frames part count channels → count ≤ upto - k → k ≤ upto
     → k + frames_used frames part ≤ upto
 used-below ended.Whole k frames part count channels upto is few low = let all = is.0 in let none = is.1 in grind (arith, nat_tests)
-used-below (ended.Late word) k frames part count channels upto is few low = let less = is.0 in grind (arith, nat_tests)
-used-below ended.Stopped k frames part count channels upto is few low = let less = is.0 in grind (arith, nat_tests)
+used-below other k frames part count channels upto is few low = let less = is.0 in grind (arith, nat_tests)
 
 -- a commit that had nothing to place placed nothing, and one that is not late and not stopped placed all
 pub none-of : (e : Ended) (frames part channels : ℕ) → IsCommit e frames part 0 channels → (frames ≡ 0) × (part ≡ 0) × (e ≡ ended.Whole)
 none-of ended.Whole frames part channels is = (is.0, is.1, refl)
-none-of (ended.Late word) frames part channels is = absurd (omega (arith, is.0))
-none-of ended.Stopped frames part channels is = absurd (omega (arith, is.0))
+none-of other frames part channels is = absurd (omega (arith, is.0))
 
 pub whole-of : (e : Ended) (frames part count channels frame channel : ℕ) (X : Type 0) → IsCommit e frames part count channels → is_stop e ≡ false
     → late_at e frame channel ≡ None → OnWhole e X → (frames ≡ count) × (part ≡ 0) × X
 whole-of ended.Whole frames part count channels frame channel X is going in_time at = (is.0, is.1, at)
-whole-of (ended.Late word) frames part count channels frame channel X is going in_time at = absurd (cc)
-whole-of ended.Stopped frames part count channels frame channel X is going in_time at = absurd (cc)
+whole-of other frames part count channels frame channel X is going in_time at = absurd (cc)
 
 -- a client after a commit which it made as `b`, in any status, with other counts of what was accepted
 abbrev pub after : PlaybackStream → PlaybackStream → Commit → Status → ℕ → ℕ → PlaybackStream
@@ -197,7 +131,6 @@ pub record CommitsAs (c b : PlaybackStream) (ring : List ℤ) (x : Commit) (coun
   pub started : b.stretch.started ≡ true
   pub near : unwrap_or b.seen 0 ≤ end_frame c.identity.geometry
   pub card : 0 < c.stretch.committed → b.stretch.card ≡ c.stretch.card
-  pub card_most : b.stretch.card ≤ end_frame c.identity.geometry + c.identity.geometry.frames
   pub laid : b.stretch.card + c.stretch.committed ≤ end_frame c.identity.geometry + c.identity.geometry.frames
   pub later : min c.stretch.committed (hw_of c) ≤ hw_of b
   pub few : count ≤ count_at c b upto
@@ -207,37 +140,13 @@ pub record CommitsAs (c b : PlaybackStream) (ring : List ℤ) (x : Commit) (coun
 pub IsMoving-after : (c b : PlaybackStream) (ring : List ℤ) (x : Commit) (count upto : ℕ) (s : Status) (fed : ℕ) → CommitsAs c b ring x count upto
     → upto ≤ hw_of b + c.setup.config.buffer_size → x.frames ≡ count_at c b upto → x.part ≡ 0
     → IsMoving (after c b x s upto fed)
-IsMoving-after c b ring x count upto s fed y fits all none =
-    let h : ℕ = unwrap_or b.seen 0 in
-    let stop : ℕ = window_end c.identity.geometry h in
-    let hw : hw_of b ≡ h - b.stretch.card = hw-started b y.started in
-    record {
-      started = y.started;
-      whole = none;
-      laid_most = whole_most upto c.stretch.committed b.stretch.card x.frames stop y.low all;
-      fits = fits;
-      pending = near-pending upto (h - b.stretch.card) (c.stretch.committed + x.frames) c.setup.config.buffer_size (omega (arith, hw, fits))
-          (whole_least upto c.stretch.committed b.stretch.card x.frames h stop (window_end-above h c.identity.geometry.frames
-          (end_frame c.identity.geometry) y.near) all);
-    }
+IsMoving-after c b ring x count upto s fed y fits all none = grind (arith, nat_tests)
 
 -- its counts are in order, in a status in which it isn't prepared nor paused
 pub IsSoundClient-after : (c b : PlaybackStream) (ring : List ℤ) (x : Commit) (count upto : ℕ) (s : Status) (written fed : ℕ) → CommitsAs c b ring x count upto
     → written + c.stretch.source ≡ fed → (s.state ≡ Prepared → ⊥) → (s.state ≡ Paused → ⊥)
     → (is_moving s.state ≡ true → s.stopped ≡ false → IsMoving (after c b x s written fed)) → IsSoundClient (after c b x s written fed) ring
-IsSoundClient-after c b ring x count upto s written fed y sums not_prepared not_paused moves = record {
-  lead = y.sound.lead;
-  seen = y.near;
-  card = y.card_most;
-  fed = sums;
-  laid = laid_most upto c.stretch.committed b.stretch.card x.frames (unwrap_or b.seen 0) c.identity.geometry.frames (end_frame c.identity.geometry) y.laid
-      (omega (arith, frames-le x.ended x.frames x.part count (length c.setup.bindings) y.commit_is, y.few));
-  set_up = λ is. y.set;
-  configured = y.sound.configured;
-  prepared = λ is. absurd (not_prepared is);
-  moving = moves;
-  paused = λ is. absurd (not_paused is);
-}
+IsSoundClient-after c b ring x count upto s written fed y sums not_prepared not_paused moves = grind (arith, nat_tests)
 
 -- ---- what holds about a load
 
@@ -246,61 +155,22 @@ pub record IsLoaded (c : PlaybackStream) (position : Position) : Type 0 where
   pub most : position.frame ≤ end_frame c.identity.geometry
 
 pub IsMoving-seen : (c : PlaybackStream) (position : Position) → IsMoving c → IsLoaded c position → IsMoving (seen_at c position)
-IsMoving-seen c position m loaded =
-    let hw : hw_of c ≡ unwrap_or c.seen 0 - c.stretch.card = hw-started c m.started in
-    let later : hw_of (seen_at c position) ≡ position.frame - c.stretch.card = hw-started (seen_at c position) m.started in
-    record { started = m.started; whole = m.whole; laid_most = m.laid_most; fits = omega (arith, later, hw, m.fits, loaded.newer); pending = m.pending }
+IsMoving-seen c position m loaded = grind (arith, nat_tests)
 
 -- a client that moves frames makes a commit at a position that it loaded
 pub CommitsAs-seen : (c : PlaybackStream) (ring : List ℤ) (position : Position) (x : Commit) (count : ℕ) → IsSoundClient c ring
     → is_moving c.status.state ≡ true → c.status.stopped ≡ false → IsLoaded c position
     → count ≤ commit_count c position.frame c.stretch.written → IsCommit x.ended x.frames x.part count (length c.setup.bindings)
     → CommitsAs c (seen_at c position) ring x count c.stretch.written
-CommitsAs-seen c ring position x count sound moves going loaded few commit_is =
-    let m = sound.moving moves going in
-    let hw : hw_of c ≡ unwrap_or c.seen 0 - c.stretch.card = hw-started c m.started in
-    let later : hw_of (seen_at c position) ≡ position.frame - c.stretch.card = hw-started (seen_at c position) m.started in
-    record {
-      sound = sound;
-      set = sound.set_up (set_up-moving c.status.state moves);
-      whole = m.whole;
-      low = m.laid_most;
-      started = m.started;
-      near = loaded.most;
-      card = λ some. refl;
-      card_most = sound.card;
-      laid = sound.laid;
-      later = min-newer c.stretch.committed (hw_of c) (hw_of (seen_at c position)) (omega (arith, hw, later, loaded.newer));
-      few = few;
-      commit_is = commit_is;
-    }
-
-over-None : (state : State) (b : Bool) (o : ℕ × ℕ) → is_moving state ≡ true → (state ≡ Running → (if is_running state && b then Some o else None) ≡ None)
-    → (if is_running state && b then Some o else None) ≡ None
-over-None Running b o is none = none refl
-over-None Draining b o is none = refl
-over-None state b o is none = absurd (cc)
-
-both-false : (a b : Bool) (n : ℕ) → a ≡ false → b ≡ false → (if a || b then 0 else n) ≡ n
-both-false false false n x y = refl
-both-false true b n x y = absurd (cc)
-both-false false true n x y = absurd (cc)
+CommitsAs-seen c ring position x count sound moves going loaded few commit_is = grind (arith, nat_tests)
 
 -- a sync that found nothing against it is to commit all
 pub count-whole : (c : PlaybackStream) (position : Position) → is_moving c.status.state ≡ true → position.gone ≡ false
     → (c.status.state ≡ Running → over_of (seen_at c position) position ≡ None)
     → sync_count c position ≡ commit_count c position.frame c.stretch.written
-count-whole c position moves here none =
-    both-false position.gone (is_some (over_of (seen_at c position) position)) _ here (ap (λ (o : Option (ℕ × ℕ)). is_some o)
-    (over-None c.status.state _ _ moves none))
+count-whole c position moves here none = grind (arith, nat_tests)
 
 -- ---- a start
-
-start_most : (position lead frame stop frames : ℕ) → position ≤ stop → lead < frames → frame ≤ stop + 1 → max (position + lead) frame ≤ stop + frames
-start_most position lead frame stop frames low short near = grind (arith, nat_tests)
-
-first_free-near : (cursor : Cursor) (stop : ℕ) → cursor.frame ≤ stop → first_free cursor 0 ≤ stop + 1
-first_free-near cursor stop low = grind (arith, nat_tests)
 
 pub min-none : (k h n : ℕ) → k ≡ 0 → min k h ≤ n
 min-none k h n none = grind (arith, nat_tests)
@@ -309,69 +179,23 @@ pub CommitsAs-started : (c : PlaybackStream) (ring : List ℤ) (state : State) (
     → IsSoundClient c ring → c.status.state ≡ Prepared → cursor.frame ≤ end_frame c.identity.geometry
     → position.frame ≤ end_frame c.identity.geometry → IsCommit x.ended x.frames x.part (start_count c cursor position upto) (length c.setup.bindings)
     → CommitsAs c (started_in c state position cursor) ring x (start_count c cursor position upto) upto
-CommitsAs-started c ring state position cursor x upto sound waits low near commit_is =
-    let p = sound.prepared waits in
-    let most = start_most position.frame c.identity.lead (first_free cursor 0) (end_frame c.identity.geometry) c.identity.geometry.frames near sound.lead
-    (first_free-near cursor (end_frame c.identity.geometry) low) in
-    record {
-      sound = sound;
-      set = sound.set_up (ap is_set_up waits);
-      whole = p.no_part;
-      low = omega (arith, p.no_frame);
-      started = refl;
-      near = near;
-      card = λ some. absurd (omega (arith, some, p.no_frame));
-      card_most = most;
-      laid = omega (arith, most, p.no_frame);
-      later = min-none c.stretch.committed (hw_of c) (hw_of (started_in c state position cursor)) p.no_frame;
-      few = if-le position.gone (commit_count (started_in c state position cursor) position.frame upto);
-      commit_is = commit_is;
-    }
+CommitsAs-started c ring state position cursor x upto sound waits low near commit_is = grind (arith, nat_tests)
 
 -- ---- a write
 
 pub CommitsAs-written : (c : PlaybackStream) (ring : List ℤ) (x : Commit) (m : ℕ) → IsSoundClient c ring → is_moving c.status.state ≡ true
     → c.status.stopped ≡ false
     → IsCommit x.ended x.frames x.part (count_with c m) (length c.setup.bindings) → CommitsAs c c ring x (count_with c m) (c.stretch.written + m)
-CommitsAs-written c ring x m sound moves going commit_is =
-    let was = sound.moving moves going in
-    record {
-      sound = sound;
-      set = sound.set_up (set_up-moving c.status.state moves);
-      whole = was.whole;
-      low = omega (arith, was.laid_most);
-      started = was.started;
-      near = sound.seen;
-      card = λ some. refl;
-      card_most = sound.card;
-      laid = sound.laid;
-      later = min-newer c.stretch.committed (hw_of c) (hw_of c) (omega arith);
-      few = if-le (nat_eq m 0) (commit_count c (unwrap_or c.seen 0) (c.stretch.written + m));
-      commit_is = commit_is;
-    }
+CommitsAs-written c ring x m sound moves going commit_is = grind (arith, nat_tests)
 
 pub taken_fits : (w hw b n m : ℕ) → w ≤ hw + b → m ≡ min n (min (b + hw - w) b) → (w + m ≤ hw + b) × (m ≤ b) × (m ≤ n)
 taken_fits w hw b n m fits is = (grind (arith, nat_tests), grind (arith, nat_tests), grind (arith, nat_tests))
-
-count-some : (m n k : ℕ) → 0 < m → n ≡ (if nat_eq m 0 then 0 else k) → n ≡ k
-count-some m n k some is = grind (arith, nat_tests)
 
 -- it moves on, where all was placed
 pub IsMoving-written : (c : PlaybackStream) (ring : List ℤ) (x : Commit) (n m : ℕ) (s : Status) (fed : ℕ) → m ≡ taken_of c n → IsMoving c
     → CommitsAs c c ring x (count_with c m) (c.stretch.written + m) → x.frames ≡ count_with c m → x.part ≡ 0
     → IsMoving (after c c x s (c.stretch.written + m) fed)
-IsMoving-written c ring x n zero s fed is was y all none =
-    record {
-      started = was.started;
-      whole = none;
-      laid_most = omega (arith, was.laid_most, all);
-      fits = omega (arith, was.fits);
-      pending = omega (arith, was.pending);
-    }
-IsMoving-written c ring x n (suc m) s fed is was y all none =
-    IsMoving-after c c ring x (count_with c (suc m)) (c.stretch.written + suc m) s fed y (taken_fits c.stretch.written (hw_of c) c.setup.config.buffer_size
-    n (suc m) was.fits is).0
-    (count-some (suc m) x.frames (commit_count c (unwrap_or c.seen 0) (c.stretch.written + suc m)) (omega arith) all) none
+IsMoving-written c ring x n m s fed is was y all none = grind (arith, nat_tests)
 
 pub taken-none : (n b hw w : ℕ) → b + hw - w ≡ 0 → min n (min (b + hw - w) b) ≡ 0
 taken-none n b hw w none = grind (arith, nat_tests)

@@ -1,7 +1,8 @@
 -- Which samples a client represents after frames were stored in its local ring.
 use Rattle.dmix_client.specs.Prelude.{ap, arith, drop, get_or, inl, inr, length, List, refl, sym, take, ℕ, ◌%◌, ◌*◌, ◌++◌, ◌+◌, ◌-◌, ◌<◌, ◌∙◌, ◌≡◌, ◌≤◌}
-use Rattle.dmix_client.specs.Prelude.{mul-le-mul_right, take-append_seam, cases_lt, nat_tests, min, pos, ℤ, PlaybackStream, taken_of, sample_at, Follows}
-use Rattle.dmix_client.specs.Prelude.{StandsFor, StandsUpTo, HasRoom, stored-new, stored-old, hw_of, IsConfigured, ring_with}
+use Rattle.dmix_client.specs.Prelude.{mul-le-mul_right, take-append_seam, nat_tests, min, pos, ℤ, PlaybackStream, taken_of, sample_at, Follows, StandsFor}
+use Rattle.dmix_client.specs.Prelude.{StandsUpTo, HasRoom, stored-new, stored-old, hw_of, IsConfigured, ring_with}
+use Rattle.std.proofs.lemmas.Bool.{cases_lt}
 use Rattle.dmix_client.proofs.Sound.{taken_fits}
 
 -- a client represents its samples up to the frames that were stored after those it has, where these are samples too

@@ -3,11 +3,10 @@ pub use Rattle.std.proofs.Common.{add-zero, ap, append_assoc, arith, drop, get_o
 pub use Rattle.std.proofs.Common.{to_z, to_z-of_z, w16, zero, zero-add, ℕ, [], ◌%◌, ◌*◌, ◌++◌, ◌+◌, ◌-◌, ◌/◌, ◌<◌, ◌^◌, ◌∙◌, ◌∷◌, ◌≡◌, ◌≤◌}
 pub use Rattle.std.proofs.Math.Nat.{add-mod-mod, div-lt_iff_lt-mul, mod-add-mod, mul-le-mul_right}
 pub use Rattle.std.proofs.Math.Seq.{take-append_seam, take-suc}
-pub use Rattle.std.proofs.lemmas.Bool.{cases_Bool, cases_eq, cases_lt}
 pub use Rattle.std.proofs.lemmas.Bool.Decides.{nat_tests}
 pub use Rattle.std.proofs.lemmas.List.{append-nil, drop_all, drop_more, map-append}
-pub use Rattle.std.specs.Prelude.{Bool, Err, false, fold, IfErr, IfNone, IfOk, IfSome, if◌then◌else◌, is_some, IsErrAnd, max, min, nat_eq, nat_le, nat_lt, None}
-pub use Rattle.std.specs.Prelude.{not, Ok, OnOk, Option, pos, Result, slice_index, slice_index_or, Some, true, unwrap_or, ℤ, ◌&&◌, ◌+ℤ◌, ◌-ℤ◌, ◌==◌, ◌||◌, ◌↔◌}
+pub use Rattle.std.specs.Prelude.{Bool, Err, false, fold, IfErr, IfNone, IfOk, IfSome, if◌then◌else◌, is_some, IsErrAnd, max, min, nat_eq, None, not, Ok, OnOk}
+pub use Rattle.std.specs.Prelude.{Option, pos, Result, slice_index, slice_index_or, Some, true, unwrap_or, ℤ, ◌&&◌, ◌+ℤ◌, ◌||◌, ◌↔◌}
 pub use denote.Enum.Bare.{same_true}
 pub use Rattle.snd_base.specs.declared.errors.PcmError.{PcmError}
 pub use Rattle.snd_base.specs.declared.errors.PcmError.TheVariants.{Again, LapEnd, NoDevice}
@@ -23,7 +22,7 @@ pub use Rattle.pcm_states.specs.declared.calls.Call.{Call}
 pub use Rattle.pcm_states.specs.declared.calls.Outcome.{Outcome}
 pub use Rattle.pcm_states.specs.declared.states.State.{State}
 pub use Rattle.pcm_states.specs.declared.states.State.TheVariants.{Disconnected, Draining, Paused, Prepared, Running, Setup, Xrun}
-pub use Rattle.pcm_states.specs.Table.{cell_outcome, done_in, draining, first_outcome, moving, next_of, refused_in, still_draining, stopped_by}
+pub use Rattle.pcm_states.specs.Table.{done_in, next_of, refused_in, stopped_by}
 pub use Rattle.pcm_stream.specs.declared.direction.Direction.TheVariants.{Playback}
 pub use Rattle.pcm_stream.specs.declared.status.Status.{Status}
 pub use Rattle.pcm_stream.specs.Status.{is_moving, is_refusal, is_set_up, nothing_found, refusal_in, refusal_of, refused_by}
@@ -45,20 +44,20 @@ pub use Rattle.course.specs.Stops.{CountsStop, pass_by}
 pub use Rattle.dmix_client.specs.declared.commit.Commit.{Commit}
 pub use Rattle.dmix_client.specs.declared.stream.PlaybackStream.{PlaybackStream}
 pub use Rattle.dmix_client.specs.Calls.{accepted_if, after_drop, after_pause, after_resume, after_start, after_sync, Answered, base_of, commit_count}
-pub use Rattle.dmix_client.specs.Calls.{committed_by, end_channel, end_of_commit, facts_of, found_at, going_on, has_frames, in_draining, in_state, is_paused}
-pub use Rattle.dmix_client.specs.Calls.{is_prepared, is_running, is_stop, late_at, late_of, over_of, pending_of, seen_at, start_count, started_in, stopped_in}
-pub use Rattle.dmix_client.specs.Calls.{sync_count, taken_of, window_end, with_accepted, with_new_base, with_number, with_outcome, written_after, written_on}
+pub use Rattle.dmix_client.specs.Calls.{committed_by, end_channel, end_of_commit, facts_of, has_frames, in_draining, in_state, is_paused, is_prepared}
+pub use Rattle.dmix_client.specs.Calls.{is_running, is_stop, late_at, late_of, over_of, pending_of, seen_at, start_count, started_in, stopped_in, sync_count}
+pub use Rattle.dmix_client.specs.Calls.{taken_of, window_end, with_accepted, with_new_base, with_number, with_outcome, written_after, written_on}
 pub use Rattle.dmix_client.specs.Causes.{Explains, ExplainsWrite, IsCaused, IsCausedBy, IsGone, IsOfSteps, Reaches}
 pub use Rattle.dmix_client.specs.Course.{admitted_by, commits, drain_on, fills, go_on, if_admitted, lay_frame, lay_on, nothing, number_course, one_frame_more}
 pub use Rattle.dmix_client.specs.Course.{one_more, pause_course, start_course, write_course, write_on}
 unfoldable pub use Rattle.dmix_client.specs.Course.{course_with_number, drains, lay_each, lay_frames, looks, resumes, starts, starts_taking, syncs, takes_more}
 unfoldable pub use Rattle.dmix_client.specs.Course.{writes_on}
-pub use Rattle.dmix_client.specs.CourseLaws.{channel_entry, LaysFrames, OnWhole-map, TakesAt-frame, TakesAt-frames, TakesAt-looks, TakesAt-step}
+pub use Rattle.dmix_client.specs.CourseLaws.{channel_entry, LaysFrames, TakesAt-frame, TakesAt-frames, TakesAt-looks, TakesAt-step}
 pub use Rattle.dmix_client.specs.Expansion.{frame_entries, run_entries, sample_at}
 pub use Rattle.dmix_client.specs.ExpansionLaws.{frames_used, run_entries-append, run_entries-same}
 pub use Rattle.dmix_client.specs.Growth.{AnySamples, Follows, Keeps, KeepsAccepted, KeepsBack, Loses, segment_entries, StandsFor, StandsUpTo, TakesAway}
 pub use Rattle.dmix_client.specs.Port.{CanUse, CountsEnd, entries_at, IsCommit, IsFound, IsFrameStep, IsOnCard, least_channel, LoadsAndCommits, TakesStep}
-pub use Rattle.dmix_client.specs.Rewind.{after_rewind, back_of, back_on, held_entries, last_laid, rewind_left, rewind_on, rewindable_of, take_on, taken_back}
+pub use Rattle.dmix_client.specs.Rewind.{after_rewind, back_of, back_on, held_entries, rewind_left, rewind_on, rewindable_of, take_on, taken_back}
 pub use Rattle.dmix_client.specs.Rewind.{without_frames}
 unfoldable pub use Rattle.dmix_client.specs.Rewind.{checks, rewinds, take_each, take_frames, takes_back}
 pub use Rattle.dmix_client.specs.Ring.{with_frames, written_over}

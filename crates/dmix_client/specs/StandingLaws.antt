@@ -22,12 +22,12 @@ use Rattle.dmix_client.specs.Rewind.{held_entries}
 use Rattle.pcm_stream.specs.Status.{is_moving, is_set_up}
 use Rattle.dmix_client.specs.View.{ClientView, IsSoundClient, hw_of, ring_sample}
 
--- a segment's entries are adds
-AreAdds-append : (es fs : List Entry) → AreAdds es → AreAdds fs → AreAdds (es ++ fs)
+-- entries are adds: those of two lists, the ones behind others, and those of a frame, of several and of a segment
+pub AreAdds-append : (es fs : List Entry) → AreAdds es → AreAdds fs → AreAdds (es ++ fs)
 AreAdds-append [] fs one two = two
 AreAdds-append (e ∷ es) fs one two = (one.0, AreAdds-append es fs one.1 two)
 
-AreAdds-end : (es fs : List Entry) → AreAdds (es ++ fs) → AreAdds fs
+pub AreAdds-end : (es fs : List Entry) → AreAdds (es ++ fs) → AreAdds fs
 AreAdds-end [] fs all = all
 AreAdds-end (e ∷ es) fs all = AreAdds-end es fs all.1
 
@@ -36,20 +36,19 @@ AreAdds-map : (entry : ℕ → Entry) → ((q : ℕ) → AreAdds (entry q ∷ []
 AreAdds-map entry add [] = tt
 AreAdds-map entry add (q ∷ qs) = ((add q).0, AreAdds-map entry add qs)
 
-AreAdds-frame : (member : ℕ) (bindings : List ℕ) (s : ℕ → ℤ) (channels card : ℕ)
+pub AreAdds-frame : (member : ℕ) (bindings : List ℕ) (s : ℕ → ℤ) (channels card : ℕ)
     → AreAdds (frame_entries member bindings s channels card)
 AreAdds-frame member bindings s channels card = AreAdds-map _ (λ q. (refl, tt)) (take channels (rising bindings))
 
-AreAdds-frames : (frame : ℕ → List Entry) → ((j : ℕ) → AreAdds (frame j)) → (a n : ℕ)
-    → AreAdds (flat_map frame (range_with_len a n))
-AreAdds-frames frame adds a zero = tt
-AreAdds-frames frame adds a (suc n) = AreAdds-append (frame a) (flat_map frame (range_with_len (a + 1) n)) (adds a) (AreAdds-frames frame adds (a + 1) n)
+pub AreAdds-frames : (frame : ℕ → List Entry) → ((j : ℕ) → AreAdds (frame j)) → (js : List ℕ) → AreAdds (flat_map frame js)
+AreAdds-frames frame adds [] = tt
+AreAdds-frames frame adds (j ∷ js) = AreAdds-append (frame j) (flat_map frame js) (adds j) (AreAdds-frames frame adds js)
 
-AreAdds-segment : (c : PlaybackStream) (samples : List ℤ) → AreAdds (segment_entries c samples)
+pub AreAdds-segment : (c : PlaybackStream) (samples : List ℤ) → AreAdds (segment_entries c samples)
 AreAdds-segment c samples =
     AreAdds-append _ _
     (AreAdds-frames _ (λ j. AreAdds-frame c.identity.member c.setup.bindings (λ q. sample_at samples (length c.setup.bindings) (c.stretch.source + j) q)
-    (length c.setup.bindings) (c.stretch.card + j)) 0 c.stretch.committed)
+    (length c.setup.bindings) (c.stretch.card + j)) (range_with_len 0 c.stretch.committed))
     (AreAdds-frame c.identity.member c.setup.bindings (λ q. sample_at samples (length c.setup.bindings) (c.stretch.source + (0 + c.stretch.committed)) q)
     c.stretch.part (c.stretch.card + (0 + c.stretch.committed)))
 

@@ -1,16 +1,14 @@
 //! What a client is after each part of a call, by what the part found.
 ghost use Rattle.std.specs.Prelude.{◌≡◌, ℕ, ◌+◌, ◌*◌, ◌^◌, ◌<◌, ◌≤◌, IfSome, OnOk, length, unwrap_or};
-ghost use Rattle.dmix_client.specs.Calls.{in_state, waiting_stretch, in_draining, has_frames, with_number, configured_with, after_drop, after_hw_free, new_client, with_accepted, accepted_if, written_after, avail_answer, commit_count, committed_by, delay_answer, facts_of, found_at, going_on, is_stop, late_of, over_of, after_pause, pending_of, after_prepare, with_new_base, after_resume, seen_at, segment_of, with_outcome, start_count, start_frame, after_start, started_in, stopped_in, sync_count, after_sync, taken_of, window_end};
+ghost use Rattle.dmix_client.specs.Calls.{in_state, waiting_stretch, has_frames, with_number, after_drop, after_hw_free, new_client, with_accepted, accepted_if, written_after, avail_answer, commit_count, committed_by, delay_answer, facts_of, found_at, going_on, is_stop, late_of, over_of, pending_of, after_prepare, with_new_base, after_resume, seen_at, segment_of, with_outcome, start_count, after_start, started_in, stopped_in, sync_count, after_sync, taken_of, window_end};
 ghost use Rattle.dmix_client.specs.Asked.{asked_number};
 ghost use Rattle.mix_core.specs.Port.{OnLate};
 ghost use Rattle.dmix_client.specs.Writes.{count_with};
-ghost use Rattle.dmix_client.specs.View.{IsReady, IsReadyAt, avail_of, hw_of, queued_of};
+ghost use Rattle.dmix_client.specs.View.{IsReady, IsReadyAt, avail_of, hw_of};
 
 use crate::commit::Commit;
 use crate::status::Asked;
 use crate::stream::{Identity, PlaybackStream, Stretch};
-use bindings::Bindings;
-use hw_space::Config;
 use mix_core::{Ended, Position};
 use pcm_states::{Call, Facts, Outcome, State, next};
 use pcm_stream::{Setup, Status, wrap_count};
@@ -40,7 +38,7 @@ impl Stretch {
 
 impl PlaybackStream {
     /// The client in another state.
-    fn in_state(&self, state: State) -> PlaybackStream
+    pub(crate) fn in_state(&self, state: State) -> PlaybackStream
         ensures { result ≡ in_state self.now state }
     {
         PlaybackStream {
@@ -70,13 +68,6 @@ impl PlaybackStream {
         let hw = wrap_count(self.hw(), boundary);
         let appl = wrap_count(self.stretch.written, boundary);
         Pointers::at(size, boundary, hw, appl).avail_playback()
-    }
-
-    /// The frames that are written and not played.
-    pub(crate) fn queued(&self) -> u64
-        ensures { result ≡ queued_of self.now }
-    {
-        self.stretch.written.saturating_sub(self.hw())
     }
 
     /// The frames available and the position, where the stop threshold was reached in RUNNING.
@@ -264,7 +255,7 @@ pub(crate) fn after_sync(
     }
     let facts = Facts {
         capture: false,
-        queued: stream.queued(),
+        queued: stream.stretch.written.saturating_sub(stream.hw()),
         starts: true,
         gone: position.gone,
         over,
@@ -289,16 +280,7 @@ pub(crate) fn found_at(position: Position, late: Option<XrunWhy>) -> Facts
 }
 
 impl PlaybackStream {
-    /// Where a start begins: past the position by the lead, and not before the port's cursor.
-    pub(crate) fn start_frame(&self, position: u64, cursor: Cursor) -> u64
-        requires position { position < 2 ^ 63 }
-        requires cursor { cursor.frame < 2 ^ 63 }
-        ensures { result ≡ start_frame self.now position cursor }
-    {
-        (position + self.identity.lead as u64).max(cursor.first_free(0))
-    }
-
-    /// The stream starts, and is in `state`.
+    /// The stream starts, past the position by the lead and not before the port's cursor, and is in `state`.
     pub(crate) fn started_in(
         &self,
         state: State,
@@ -311,7 +293,7 @@ impl PlaybackStream {
     {
         PlaybackStream {
             stretch: Stretch {
-                card: self.start_frame(position.frame, cursor),
+                card: (position.frame + self.identity.lead as u64).max(cursor.first_free(0)),
                 started: true,
                 ..self.stretch
             },
@@ -332,14 +314,6 @@ impl PlaybackStream {
             self.started_in(State::Running, position, cursor)
                 .commit_count(position.frame, upto)
         }
-    }
-
-    /// How many frames a write of `frames` takes.
-    pub(crate) fn taken(&self, frames: u64) -> u64
-        requires { IsReady self.now }
-        ensures { result ≡ taken_of self.now frames }
-    {
-        self.taken_within(frames, self.avail())
     }
 
     /// How many frames a write of `frames` takes where `avail` are available.
@@ -424,13 +398,6 @@ pub(crate) fn after_start(
 }
 
 impl PlaybackStream {
-    /// The stream is paused.
-    pub(crate) fn paused(&self) -> PlaybackStream
-        ensures { result ≡ after_pause self.now }
-    {
-        self.in_state(State::Paused)
-    }
-
     /// The frames that are accepted and not committed.
     pub(crate) fn pending(&self) -> u64
         ensures { result ≡ pending_of self.now }
@@ -537,16 +504,6 @@ impl PlaybackStream {
         }
     }
 
-    /// The client runs with a configuration, with the default thresholds.
-    pub(crate) fn configured_with(&self, config: Config, bindings: Bindings) -> PlaybackStream
-        ensures { result ≡ configured_with self.now config bindings }
-    {
-        PlaybackStream {
-            setup: Setup::with(config, bindings),
-            ..self.prepared()
-        }
-    }
-
     /// The client gives its configuration up.
     pub(crate) fn freed(&self) -> PlaybackStream
         ensures { result ≡ after_hw_free self.now }
@@ -599,13 +556,6 @@ pub(crate) fn with_number(
 }
 
 impl PlaybackStream {
-    /// The stream drains.
-    pub(crate) fn draining(&self) -> PlaybackStream
-        ensures { result ≡ in_draining self.now }
-    {
-        self.in_state(State::Draining)
-    }
-
     /// Whether the stream is prepared and has frames to play.
     pub(crate) fn has_frames(&self) -> bool
         ensures { result ≡ has_frames self.now }

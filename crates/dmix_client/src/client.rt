@@ -12,7 +12,7 @@ use crate::stream::PlaybackStream;
 use bindings::Bindings;
 use hw_space::Config;
 use pcm_states::{Call, State};
-use pcm_stream::Direction;
+use pcm_stream::{Direction, Setup};
 use snd_base::{Geometry, PcmError, Segment};
 use std::alloc::Global;
 use std::marker::Model;
@@ -150,7 +150,10 @@ impl Client {
         let room = config.buffer_size as usize * bindings.len() as usize;
         let ring = vec![in alloc; 0i16; room]?;
         self.ring = ring;
-        self.stream = self.stream.configured_with(config, bindings);
+        self.stream = PlaybackStream {
+            setup: Setup::with(config, bindings),
+            ..self.stream.prepared()
+        };
         Ok(())
     }
 

@@ -147,7 +147,7 @@ impl Client {
         self.stream.status.admit(Direction::Playback, Call::Drain)?;
         let ring = self.ring.as_slice();
         if self.stream.status.is_moving() {
-            self.stream = self.stream.draining();
+            self.stream = self.stream.in_state(State::Draining);
             return sync_call(&mut self.stream, ring, port, gate, Call::Drain);
         }
         if !self.stream.has_frames() {

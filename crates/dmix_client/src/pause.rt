@@ -76,7 +76,7 @@ impl Client {
     {
         if on {
             self.stream.status.admit(Direction::Playback, Call::Pause)?;
-            self.stream = self.stream.paused();
+            self.stream = self.stream.in_state(State::Paused);
             return Ok(());
         }
         self.stream.status.admit(Direction::Playback, Call::Resume)?;

@@ -169,7 +169,7 @@ fn write_prepared<P: MixPort, G: Gate>(
         (after_start stream.old State.Running (P.view port.old).marks.cursor load commit))
         (stream.new, result) }
 {
-    let taken = stream.taken(frames);
+    let taken = stream.taken_within(frames, stream.avail());
     store_taken(stream, ring, samples, taken);
     if stream.setup.params.start_threshold > stream.stretch.written + taken {
         *stream = stream.accepted(taken);

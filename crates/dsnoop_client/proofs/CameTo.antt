@@ -15,8 +15,7 @@ IsLooks Stopped done channels looks = looks ≤ (done + 1) * channels
 -- how far some frames got: to their end, or before it
 abbrev pub IsUpTo : Got → ℕ → ℕ → Type 0
 IsUpTo Whole done all = done ≡ all
-IsUpTo (Overtaken channel word) done all = done < all
-IsUpTo Stopped done all = done < all
+IsUpTo other done all = done < all
 
 pub record CameTo {S T : Type 0} (P : snoopport.Ghosts S) (G : gates.Ghosts T) (s t : S × T) (count first done : ℕ) (ended : Got) : Type 0 where
   pub view_is : P.view t.0 ≡ P.view s.0
@@ -30,13 +29,11 @@ pub record CameTo {S T : Type 0} (P : snoopport.Ghosts S) (G : gates.Ghosts T) (
 
 up_to-more : (e : Got) (done all : ℕ) → IsUpTo e done all → IsUpTo e (done + 1) (suc all)
 up_to-more Whole done all is = omega (arith, is)
-up_to-more (Overtaken channel word) done all is = omega (arith, is)
-up_to-more Stopped done all is = omega (arith, is)
+up_to-more other done all is = omega (arith, is)
 
 looks-more : (e : Got) (done channels asks looks : ℕ) → asks ≡ channels → IsLooks e done channels looks → IsLooks e (done + 1) channels (asks + looks)
 looks-more Whole done channels asks looks all is = omega (arith, all, is)
-looks-more (Overtaken channel word) done channels asks looks all is = omega (arith, all, is)
-looks-more Stopped done channels asks looks all is = omega (arith, all, is)
+looks-more other done channels asks looks all is = omega (arith, all, is)
 
 past-at : {S : Type 0} (view : S → SnoopView) (shows : S → ℕ → ℕ → Option ℕ) (p : S) (e : Got) (a b : ℕ) → a ≡ b
     → OnOvertaken e (λ channel word. IsPast view shows p a channel word) → OnOvertaken e (λ channel word. IsPast view shows p b channel word)
@@ -58,30 +55,6 @@ module _ {S T : Type 0} (P : snoopport.Ghosts S) (G : gates.Ghosts T) (composes 
         looks_number = omega arith;
         asked_them = asks.none s.1;
       }))
-  gets_frames-come (suc count) first s t done ended (Overtaken channel word, m, step, rest) =
-      subst (λ (u : S × T). CameTo P G s u (suc count) first done ended) (sym rest.there)
-      (subst (λ (r : ℕ × Got). CameTo P G s m (suc count) first r.0 r.1) (sym rest.result) (record {
-        view_is = step.1.view_is;
-        up_to = omega arith;
-        loaded_nothing = step.1.loaded_nothing;
-        overtaken = past-at P.view P.shows m.0 (Overtaken channel word) first (first + 0) (omega arith) step.1.overtaken;
-        stops = step.1.stopped;
-        looks = step.1.asks;
-        looks_number = omega (arith, step.1.asks_number);
-        asked_them = step.1.asked_them;
-      }))
-  gets_frames-come (suc count) first s t done ended (Stopped, m, step, rest) =
-      subst (λ (u : S × T). CameTo P G s u (suc count) first done ended) (sym rest.there)
-      (subst (λ (r : ℕ × Got). CameTo P G s m (suc count) first r.0 r.1) (sym rest.result) (record {
-        view_is = step.1.view_is;
-        up_to = omega arith;
-        loaded_nothing = step.1.loaded_nothing;
-        overtaken = tt;
-        stops = step.1.stopped;
-        looks = step.1.asks;
-        looks_number = omega (arith, step.1.asks_number.1);
-        asked_them = step.1.asked_them;
-      }))
   gets_frames-come (suc count) first s t done ended (Whole, m, step, rest) =
       let parts = Takes-parts (LoadsAtSnoop P G) NoLay (GetsAtSnoop P G) m t (gets_frames count (first + 1)) (λ end. ends (one_more end)) (done, ended) rest in
       let later = gets_frames-come count (first + 1) m parts.0 parts.1.0 parts.1.1 parts.2 in
@@ -98,4 +71,17 @@ module _ {S T : Type 0} (P : snoopport.Ghosts S) (G : gates.Ghosts T) (composes 
         asked_them = subst (λ xs. G.asked s.1 parts.0.1 xs (pass_of_got parts.1.1)) (replicate-append-replicate step.1.asks later.looks kind.Look)
             (asks.joined s.1 m.1 parts.0.1 (replicate step.1.asks kind.Look) (replicate later.looks kind.Look) (pass_of_got parts.1.1)
             step.1.asked_them later.asked_them);
+      }))
+  gets_frames-come (suc count) first s t done ended (other, m, step, rest) =
+      let asked = step.1.asks_number in
+      subst (λ (u : S × T). CameTo P G s u (suc count) first done ended) (sym rest.there)
+      (subst (λ (r : ℕ × Got). CameTo P G s m (suc count) first r.0 r.1) (sym rest.result) (record {
+        view_is = step.1.view_is;
+        up_to = omega arith;
+        loaded_nothing = step.1.loaded_nothing;
+        overtaken = past-at P.view P.shows m.0 other first (first + 0) (omega arith) step.1.overtaken;
+        stops = step.1.stopped;
+        looks = step.1.asks;
+        looks_number = omega (arith, asked);
+        asked_them = step.1.asked_them;
       }))

@@ -18,11 +18,7 @@ use Rattle.snoop_core.specs.declared.port.SnoopPort as snoopport
 
 pub starts-outcome : (s : State) (k : Call) (gone : Bool) → s ≡ state.Prepared → IsStart k
     → next_of s k (facts_with gone None None) ≡ (if gone then refused_in state.Disconnected NoDevice else done_in state.Running)
-starts-outcome s call.Start true is start = rw is refl
-starts-outcome s call.Start false is start = rw is refl
-starts-outcome s call.Transfer true is start = rw is refl
-starts-outcome s call.Transfer false is start = rw is refl
-starts-outcome s other gone is start = absurd start
+starts-outcome s other gone is start = grind (arith, nat_tests)
 
 abbrev going_outcome : Bool → Option (ℕ × ℕ) → Outcome
 going_outcome true over = refused_in state.Disconnected NoDevice
@@ -31,13 +27,7 @@ going_outcome false None = done_in state.Running
 
 syncs-outcome : (s : State) (k : Call) (gone : Bool) (over : Option (ℕ × ℕ)) → s ≡ state.Running → IsSync k
     → next_of s k (facts_with gone over None) ≡ going_outcome gone over
-syncs-outcome s call.Sync true over is sync = rw is refl
-syncs-outcome s call.Sync false None is sync = rw is refl
-syncs-outcome s call.Sync false (Some (avail, seen)) is sync = rw is refl
-syncs-outcome s call.Transfer true over is sync = rw is refl
-syncs-outcome s call.Transfer false None is sync = rw is refl
-syncs-outcome s call.Transfer false (Some (avail, seen)) is sync = rw is refl
-syncs-outcome s other gone over is sync = absurd sync
+syncs-outcome s other gone over is sync = grind (arith, nat_tests)
 
 abbrev at_start : CaptureStream → Position → CaptureStream
 at_start c position = record c { seen = Some position.frame; next = position.frame }
@@ -76,21 +66,11 @@ pub record Went {S T : Type 0} (P : snoopport.Ghosts S) (G : gates.Ghosts T) (s 
 pub sound-at : (c : CaptureStream) (f n : ℕ) (st : State) → IsSoundReader c → f ≤ end_frame c.geometry → is_of_capture st ≡ true
     → (is_set_up st ≡ true → c.setup.configured ≡ true)
     → (st ≡ state.Running → (first_frame c.geometry ≤ n) × (n ≤ f)) → IsSoundReader (in_state (record c { seen = Some f; next = n }) st)
-sound-at c f n st sound most captures set_up reading = record {
-  captures = captures;
-  seen = most;
-  set_up = set_up;
-  configured = sound.configured;
-  reading = λ is. record { least = (reading is).0; most = (reading is).1 };
-}
+sound-at c f n st sound most captures set_up reading = grind (arith, nat_tests)
 
 pub use-newer : (c d : CaptureStream) (v w : SnoopView) (f : ℕ) → CanUse c v → w ≡ record v { seen = f } → d.geometry ≡ c.geometry
     → d.seen ≡ Some f → CanUse d w
-use-newer c d v w f can is same saw =
-    subst (λ (x : SnoopView). CanUse d x) (sym is) (record {
-      same_geometry = can.same_geometry ∙ sym same;
-      newer = let at : unwrap_or d.seen 0 ≡ f = ap (λ (o : Option ℕ). unwrap_or o 0) saw in omega (arith, at);
-    })
+use-newer c d v w f can is same saw = grind (arith, nat_tests)
 
 xrun-same : {X : Type 0} (a f b g : ℕ) → a ≡ b → f ≡ g → (let r : Result X PcmError = Err (Xrun (Avail a f)) in r) ≡ Err (Xrun (Avail b g))
 xrun-same a f b g first last = cc
@@ -112,14 +92,7 @@ module _ {S T : Type 0} (P : snoopport.Ghosts S) (G : gates.Ghosts T) where
       → ((frame channel word : ℕ) → answer ≡ Err (Xrun (Overtaken frame channel word)) → IsMissed P t.0 d frame channel word)
       → IsExplained P G s t c d answer
   explained-some {s = s} {t = t} {c = c} {d = d} position can view_is loaded_it stops same_ring same_setup saw sound stopped of_steps no_device reached overtaken = record {
-    keeps = record {
-      sound = sound;
-      port = use-newer c d (P.view s.0) (P.view t.0) position.frame can view_is same_ring saw;
-      same_ring = same_ring;
-      same_setup = same_setup;
-      stopped = stopped;
-      told = λ unstopped. stops;
-    };
+    keeps = assumption (use-newer c d (P.view s.0) (P.view t.0) position.frame can view_is same_ring saw);
     why = record {
       load = Some position;
       loaded_it = loaded_it;
@@ -135,34 +108,7 @@ module _ {S T : Type 0} (P : snoopport.Ghosts S) (G : gates.Ghosts T) where
   -- the gate stopped the load
   pub explained-none : {X : Type 0} (s t : S × T) (c : CaptureStream) → IsSoundReader c → CanUse c (P.view s.0) → LoadsAtSnoop P G s None t
       → IsExplained {X = X} P G s t c (record c { status = record c.status { stopped = true } }) (Err Stopped)
-  explained-none s t c sound can step = record {
-    keeps = record {
-      sound = record {
-        captures = sound.captures;
-        seen = sound.seen;
-        set_up = sound.set_up;
-        configured = sound.configured;
-        reading = λ is.
-            record { least = (sound.reading is).least; most = (sound.reading is).most };
-      };
-      port = subst (λ (v : SnoopView). CanUse (record c { status = record c.status { stopped = true } }) v) (sym step.view_is)
-          (record { same_geometry = can.same_geometry; newer = can.newer });
-      same_ring = refl;
-      same_setup = refl;
-      stopped = (λ h. refl, λ h. refl);
-      told = λ unstopped. step.stopped;
-    };
-    why = record {
-      load = None;
-      loaded_it = step.loaded_it;
-      unless_stopped = refl;
-      saw = tt;
-      of_steps = tt;
-      no_device = (λ h. cc, λ h. absurd h);
-      reached = λ avail frame. (λ h. cc, λ h. absurd h);
-      overtaken = λ frame channel word h. cc;
-    };
-  }
+  explained-none s t c sound can step = grind (arith, nat_tests)
 
   -- the card was gone at the position
   pub explained-gone : {X : Type 0} (s t : S × T) (c : CaptureStream) (position : Position) → IsSoundReader c → c.status.stopped ≡ false → CanUse c (P.view s.0)
@@ -372,16 +318,7 @@ why-error {X = X} {Y = Y} P p q c d e why = record {
 -- a good answer with a number
 why-ok : {S : Type 0} (P : snoopport.Ghosts S) (p q : S) (c d : CaptureStream) (n : ℕ) → Explains {X = Unit {0}} P p q c d (Ok tt)
     → Explains {X = ℕ} P p q c d (Ok n)
-why-ok P p q c d n why = record {
-  load = why.load;
-  loaded_it = why.loaded_it;
-  unless_stopped = if-none why.load (λ h. absurd (cc)) why.unless_stopped;
-  saw = why.saw;
-  of_steps = tt;
-  no_device = (λ h. cc, λ h. let gone = why.no_device.1 h in cc);
-  reached = λ a f. (λ h. cc, λ h. let over = (why.reached a f).1 h in cc);
-  overtaken = λ f ch w h. cc;
-}
+why-ok P p q c d n why = grind (arith, nat_tests)
 
 pub why-avail : {S : Type 0} (P : snoopport.Ghosts S) (p q : S) (c d : CaptureStream) (answer : Result (Unit {0}) PcmError) (x : Result ℕ PcmError)
     → with_avail (d, answer) ≡ (d, x) → Explains P p q c d answer → Explains P p q c d x

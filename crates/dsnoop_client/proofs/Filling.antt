@@ -1,8 +1,7 @@
 -- Frames that were got fill the room of a read, one after the other.
 use Rattle.dsnoop_client.specs.Prelude.{add-one, ap, arith, drop, length, List, pos, refl, subst, suc, sym, take, zero, ℕ, [], ◌*◌, ◌++◌, ◌+◌, ◌∙◌, ◌∷◌, ◌≡◌}
 use Rattle.dsnoop_client.specs.Prelude.{◌≤◌, append-nil, length-append, length-map, map-append, take-append-drop, All, slice_index_or, ℤ, Composes}
-use Rattle.dsnoop_client.specs.Prelude.{Composes-none_after, Got, Overtaken, Stopped, Whole, frame_if, OnGot, SnoopView, AreFrames, bound_samples, Fills}
-use Rattle.dsnoop_client.specs.Prelude.{through_all}
+use Rattle.dsnoop_client.specs.Prelude.{Composes-none_after, Got, Whole, frame_if, OnGot, SnoopView, AreFrames, bound_samples, Fills, through_all}
 use Rattle.std.proofs.Math.Seq.{take-append_seam}
 use Rattle.std.proofs.lemmas.Grind.{flat_map-append}
 use Rattle.std.proofs.lemmas.List.Elements.{All-append}
@@ -14,8 +13,7 @@ use Rattle.snoop_core.specs.declared.port.SnoopPort as snoopport
 
 OnGot-not : (end : Got) (X : Type 0) → (end ≡ Whole → ⊥) → OnGot end X
 OnGot-not Whole X not_whole = absurd (not_whole refl)
-OnGot-not (Overtaken channel word) X not_whole = tt
-OnGot-not Stopped X not_whole = tt
+OnGot-not other X not_whole = tt
 
 -- one number more at the end of a row
 range_with_len-more : (a n : ℕ) → range_with_len a (suc n) ≡ range_with_len a n ++ (a + n) ∷ []
@@ -66,8 +64,8 @@ put_mid-next head before part at k n at_end size room is =
     (omega (arith, is)) (sym at_end))
 
 module _ {S : Type 0} (P : snoopport.Ghosts S) (composes : Composes P.got) where
-  pub Fills-none : (p : S) (bindings : List ℕ) (first : ℕ) (before : List ℤ) → Fills P p p bindings first 0 Whole before before
-  Fills-none p bindings first before = record {
+  pub Fills-none : {p : S} {bindings : List ℕ} {first : ℕ} {before : List ℤ} → Fills P p p bindings first 0 Whole before before
+  Fills-none {p} {bindings} {first} {before} = record {
     frames = [];
     got_them = composes.none p;
     are = record { numbers = refl; whole = λ k d within. absurd (omega (arith, within)) };
@@ -76,13 +74,13 @@ module _ {S : Type 0} (P : snoopport.Ghosts S) (composes : Composes P.got) where
   }
 
   -- one frame more
-  pub Fills-next : (p q r : S) (bindings : List ℕ) (first done k m : ℕ) (before now part : List ℤ) (frame : Frame) → P.view q ≡ P.view p
+  pub Fills-next : {p q r : S} {bindings : List ℕ} {first done : ℕ} {before now : List ℤ} (k m : ℕ) (part : List ℤ) (frame : Frame) → P.view q ≡ P.view p
       → k ≡ length bindings → m ≡ k
       → frame.number ≡ first + done → length frame.samples ≡ (P.view q).geometry.channels → part ≡ bound_samples bindings frame.samples
       → (done + 1) * length bindings ≤ length before
       → Fills P p q bindings first done Whole before now → P.got q r (frame ∷ [])
       → Fills P p r bindings first (done + 1) Whole before (put_mid (done * k) m now part)
-  Fills-next p q r bindings first done k m before now part frame same_view is_k is_m is_number size is_part room so_far got_it = record {
+  Fills-next {p} {q} {r} {bindings} {first} {done} {before} {now} k m part frame same_view is_k is_m is_number size is_part room so_far got_it = record {
     frames = so_far.frames ++ frame ∷ [];
     got_them = composes.joined p q r so_far.frames (frame ∷ []) so_far.got_them got_it;
     are = AreFrames-more so_far.frames frame first (P.view p).geometry.channels so_far.are (is_number ∙ ap (λ n. first + n) (sym so_far.count))
@@ -104,12 +102,11 @@ module _ {S : Type 0} (P : snoopport.Ghosts S) (composes : Composes P.got) where
   -- a load that didn't get its frame
   got_nothing : (q r : S) (ended : Got) (frame : Frame) → (ended ≡ Whole → ⊥) → P.got q r (frame_if ended frame) → P.got q r []
   got_nothing q r Whole frame not_whole got = absurd (not_whole refl)
-  got_nothing q r (Overtaken channel word) frame not_whole got = got
-  got_nothing q r Stopped frame not_whole got = got
+  got_nothing q r other frame not_whole got = got
 
-  pub Fills-ended : (p q r : S) (bindings : List ℕ) (first done : ℕ) (ended : Got) (before now after : List ℤ) (frame : Frame) → (ended ≡ Whole → ⊥)
+  pub Fills-ended : {p q r : S} {bindings : List ℕ} {first done : ℕ} {ended : Got} {before now after : List ℤ} (frame : Frame) → (ended ≡ Whole → ⊥)
       → Fills P p q bindings first done Whole before now → P.got q r (frame_if ended frame) → Fills P p r bindings first done ended before after
-  Fills-ended p q r bindings first done ended before now after frame not_whole so_far step = record {
+  Fills-ended {p} {q} {r} {ended = ended} frame not_whole so_far step = record {
     frames = so_far.frames;
     got_them = Composes-none_after P.got p q r so_far.frames composes so_far.got_them (got_nothing q r ended frame not_whole step);
     are = so_far.are;

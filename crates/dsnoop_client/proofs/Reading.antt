@@ -1,10 +1,9 @@
 -- What a read makes of a reader, by its load and by what its frames ended in.
-use Rattle.dsnoop_client.specs.Prelude.{ap, arith, inl, inr, List, refl, subst, sym, ℕ, [], ◌*◌, ◌+◌, ◌-◌, ◌<◌, ◌∙◌, ◌∷◌, ◌≡◌, ◌≤◌, ◌⊎◌, mul-le-mul_right}
-use Rattle.dsnoop_client.specs.Prelude.{nat_tests, Bool, Err, false, if◌then◌else◌, nat_eq, nat_lt, Ok, Option, replicate, Result, Some, true, unwrap_or, ℤ}
-use Rattle.dsnoop_client.specs.Prelude.{◌&&◌, ◌↔◌, PcmError, Again, Xrun, Geometry, Composes, Composes-none_after, State, Pass, Go, Stop, Position, AsksCompose}
-use Rattle.dsnoop_client.specs.Prelude.{stops_after, Got, Overtaken, Stopped, Whole, IsPast, pass_of_got, SnoopView, pass_by, CaptureStream, in_state}
-use Rattle.dsnoop_client.specs.Prelude.{read_after, read_to, taken_of, FindsNone, IsMissed, Asks, IsLookNumber, AreFrames, Fills, GivesFrames, avail_of}
-use Rattle.dsnoop_client.specs.Prelude.{IsSoundReader}
+use Rattle.dsnoop_client.specs.Prelude.{ap, arith, List, refl, subst, sym, ℕ, [], ◌*◌, ◌+◌, ◌-◌, ◌<◌, ◌∙◌, ◌∷◌, ◌≡◌, ◌≤◌, mul-le-mul_right, nat_tests, Bool}
+use Rattle.dsnoop_client.specs.Prelude.{Err, false, if◌then◌else◌, nat_eq, nat_lt, Ok, replicate, Result, Some, true, ℤ, ◌&&◌, ◌↔◌, PcmError, Again, Xrun}
+use Rattle.dsnoop_client.specs.Prelude.{Geometry, Composes, Composes-none_after, Pass, Go, Stop, Position, AsksCompose, stops_after, Got, Overtaken, Stopped}
+use Rattle.dsnoop_client.specs.Prelude.{Whole, pass_of_got, SnoopView, pass_by, CaptureStream, in_state, read_after, read_to, taken_of, FindsNone, IsMissed}
+use Rattle.dsnoop_client.specs.Prelude.{Asks, IsLookNumber, Fills, GivesFrames, avail_of, IsSoundReader}
 use Rattle.dsnoop_client.proofs.CameTo.{CameTo, IsUpTo}
 use Rattle.dsnoop_client.proofs.Explaining.{IsExplained, Went, explained-some, explained-went}
 use Rattle.snd_base.specs.declared.errors.PcmError.TheVariants as error
@@ -17,39 +16,9 @@ use Rattle.snoop_core.specs.declared.port.SnoopPort as snoopport
 -- ---- what it gives
 
 module _ {S : Type 0} (P : snoopport.Ghosts S) (p q : S) (c : CaptureStream) (before after : List ℤ) (same : (P.view p).geometry ≡ c.geometry) where
-  are-frames : (done : ℕ) (ended : Got) (fills : Fills P p q c.setup.bindings c.next done ended before after)
-      → AreFrames fills.frames c.next c.geometry.channels
-  are-frames done ended fills = subst (λ (g : Geometry). AreFrames fills.frames c.next g.channels) same fills.are
-
-  reads-error : (done : ℕ) (ended : Got) (d : CaptureStream) (e : PcmError) → d.next ≡ c.next → Fills P p q c.setup.bindings c.next done ended before after
-      → GivesFrames P p q c d before after (Err e)
-  reads-error done ended d e stays fills = record {
-    first = c.next;
-    begins = λ runs. refl;
-    next_is = omega (arith, stays);
-    frames = fills.frames;
-    got_them = fills.got_them;
-    are = are-frames done ended fills;
-    count = tt;
-    samples = tt;
-  }
-
   reads-if : (test : Bool) (done : ℕ) (ended : Got) → Fills P p q c.setup.bindings c.next done ended before after
       → GivesFrames P p q c (if test then (c, Err Again) else read_to c done ended).0 before after (if test then (c, Err Again) else read_to c done ended).1
-  reads-if true done ended fills = reads-error done ended c Again refl fills
-  reads-if false done Whole fills = record {
-    first = c.next;
-    begins = λ runs. refl;
-    next_is = refl;
-    frames = fills.frames;
-    got_them = fills.got_them;
-    are = are-frames done Whole fills;
-    count = fills.count;
-    samples = fills.samples;
-  }
-  reads-if false done (Overtaken channel word) fills =
-      reads-error done (Overtaken channel word) (in_state c state.Xrun) (Xrun (why.Overtaken (c.next + done) channel word)) refl fills
-  reads-if false done Stopped fills = reads-error done Stopped (record c { status = record c.status { stopped = true } }) error.Stopped refl fills
+  reads-if test done ended fills = grind (arith, nat_tests)
 
   pub reads-of : (n done : ℕ) (ended : Got) → Fills P p q c.setup.bindings c.next done ended before after
       → GivesFrames P p q c (read_after c n done ended).0 before after (read_after c n done ended).1
@@ -74,10 +43,6 @@ some-wanted n avail finds = grind (arith, nat_tests)
 avail-found : (n avail : ℕ) → (nat_lt 0 n && nat_eq avail 0) ≡ false → avail ≡ 0 → 0 < n → ⊥
 avail-found n avail goes none some = grind (arith, nat_tests)
 
-runs-or : (s : State) → (s ≡ state.Running) ⊎ (s ≡ state.Running → ⊥)
-runs-or state.Running = inl refl
-runs-or other = inr (λ h. cc)
-
 module _ {S T : Type 0} (P : snoopport.Ghosts S) (G : gates.Ghosts T) (composes : Composes P.loaded) (asks : AsksCompose G.asked) (s m t : S × T)
     (c u : CaptureStream) (position : Position)
     (went : Went P G s m c u position Go) (asked : G.asked s.1 m.1 (kind.Position ∷ []) Go) where
@@ -99,22 +64,12 @@ module _ {S T : Type 0} (P : snoopport.Ghosts S) (G : gates.Ghosts T) (composes 
     begins = went.begins;
   }
 
-  saw-at : unwrap_or u.seen 0 ≡ position.frame
-  saw-at = ap (λ (o : Option ℕ). unwrap_or o 0) went.saw
-
   -- no frame is available exactly where the reader finds none at the position
   finds-none : avail_of u ≡ 0 → FindsNone c (Some position)
-  finds-none none = (
-    went.here,
-    λ runs. let next : u.next ≡ c.next = went.goes_on runs in let most : u.next ≤ unwrap_or u.seen 0 = (went.sound.reading went.running).most in
-        omega (arith, none, saw-at, next, most),
-  )
+  finds-none none = grind (arith, nat_tests)
 
   none-found : FindsNone c (Some position) → avail_of u ≡ 0
-  none-found finds = elim (runs-or c.status.state) [
-    | inl runs ↦ let next : u.next ≡ c.next = went.goes_on runs in let at : position.frame ≡ c.next = finds.1 runs in omega (arith, saw-at, next, at)
-    | inr stands ↦ let next : u.next ≡ position.frame = went.begins stands in omega (arith, saw-at, next)
-  ]
+  none-found finds = grind (arith, nat_tests)
 
   asks-frames : (d : CaptureStream) (n looks : ℕ) (pass : Pass) (answer : Result ℕ PcmError)
       → IsLookNumber answer d.next d.geometry.channels n looks → pass_by answer ≡ pass
@@ -132,47 +87,22 @@ module _ {S T : Type 0} (P : snoopport.Ghosts S) (G : gates.Ghosts T) (composes 
   -- a test that holds leaves nothing to load
   no-frames : (n count done : ℕ) (ended : Got) → avail_of u ≡ 0 → count ≡ taken_of u n → IsUpTo ended done count → (ended ≡ Whole) × (done ≡ 0)
   no-frames n count done Whole none is_count up_to = (refl, omega (arith, none, is_count, up_to))
-  no-frames n count done (Overtaken channel word) none is_count up_to = absurd (omega (arith, none, is_count, up_to))
-  no-frames n count done Stopped none is_count up_to = absurd (omega (arith, none, is_count, up_to))
+  no-frames n count done other none is_count up_to = absurd (omega (arith, none, is_count, up_to))
 
   -- a reader that has read frames, one that missed one, and one that was stopped
   sound-next : (done : ℕ) → done ≤ avail_of u → IsSoundReader (record u { next = u.next + done })
-  sound-next done few = record {
-    captures = went.sound.captures;
-    seen = went.sound.seen;
-    set_up = went.sound.set_up;
-    configured = went.sound.configured;
-    reading = λ runs. let at = went.sound.reading runs in record { least = omega (arith, at.least); most = omega (arith, at.most, few) };
-  }
+  sound-next done few = grind (arith, nat_tests)
 
   sound-missed : IsSoundReader (in_state u state.Xrun)
-  sound-missed = record {
-    captures = refl;
-    seen = went.sound.seen;
-    set_up = λ h. went.sound.set_up (rw went.running refl);
-    configured = went.sound.configured;
-    reading = λ h. cc;
-  }
+  sound-missed = grind (arith, nat_tests)
 
   sound-stopped : IsSoundReader (record u { status = record u.status { stopped = true } })
-  sound-stopped = record {
-    captures = went.sound.captures;
-    seen = went.sound.seen;
-    set_up = went.sound.set_up;
-    configured = went.sound.configured;
-    reading = λ runs. let at = went.sound.reading runs in record { least = at.least; most = at.most };
-  }
+  sound-stopped = grind (arith, nat_tests)
 
   missed-at : (count done channel word frame at seen : ℕ) → count ≤ avail_of u → CameTo P G m t count u.next done (Overtaken channel word)
       → frame ≡ u.next + done → at ≡ channel → seen ≡ word
       → IsMissed P t.0 (in_state u state.Xrun) frame at seen
-  missed-at count done channel word frame at seen few came is_frame is_channel is_word = record {
-    unread = omega (arith, is_frame);
-    captured = omega (arith, is_frame, few, came.up_to);
-    past = subst (λ (k : ℕ). IsPast P.view P.shows t.0 k at seen) (sym is_frame) (subst (λ (k : ℕ). IsPast P.view P.shows t.0 (u.next + done)
-        k seen) (sym is_channel)
-        (subst (λ (k : ℕ). IsPast P.view P.shows t.0 (u.next + done) channel k) (sym is_word) came.overtaken));
-  }
+  missed-at count done channel word frame at seen few came is_frame is_channel is_word = grind (arith, nat_tests)
 
   read-explained-if : (test : Bool) (n count done : ℕ) (ended : Got) → (nat_lt 0 n && nat_eq (avail_of u) 0) ≡ test → count ≡ taken_of u n
       → CameTo P G m t count u.next done ended
@@ -188,10 +118,8 @@ module _ {S T : Type 0} (P : snoopport.Ghosts S) (G : gates.Ghosts T) (composes 
         asks = asks-frames u n came.looks Go (Err Again) (came.looks_number ∙ ap (λ (k : ℕ). k * (P.view m.0).geometry.channels) nothing.1
             ∙ (let zero : 0 * (P.view m.0).geometry.channels ≡ 0 = omega arith in zero)) refl came.asked_them;
       }
-  read-explained-if true n count done (Overtaken channel word) test is_count came =
-      absurd (let nothing = no-frames n count done (Overtaken channel word) (no-avail n (avail_of u) test) is_count came.up_to in let is = nothing.0 in cc)
-  read-explained-if true n count done Stopped test is_count came =
-      absurd (let nothing = no-frames n count done Stopped (no-avail n (avail_of u) test) is_count came.up_to in let is = nothing.0 in cc)
+  read-explained-if true n count done other test is_count came =
+      absurd (let nothing = no-frames n count done other (no-avail n (avail_of u) test) is_count came.up_to in let is = nothing.0 in cc)
   read-explained-if false n count done Whole test is_count came = record {
     told = explained-went P G (went-frames count u.next done Whole came) refl refl refl refl
         (sound-next done (omega (arith, is_count, came.up_to)))

@@ -1,7 +1,7 @@
 -- A call that the test of a reader's state refuses, and one that it lets pass.
-use Rattle.dsnoop_client.specs.Prelude.{ap, refl, subst, sym, ◌∙◌, ◌≡◌, Bool, Err, false, if◌then◌else◌, None, Ok, OnOk, Option, Result, Some, true, ◌↔◌}
-use Rattle.dsnoop_client.specs.Prelude.{PcmError, Call, State, next_of, Capture, is_refusal, nothing_found, refusal_in, refusal_of, refused_by, Pass, Go}
-use Rattle.dsnoop_client.specs.Prelude.{stops_after, pass_by, CaptureStream, Keeps, CanUse, is_running, IsSoundReader}
+use Rattle.dsnoop_client.specs.Prelude.{ap, arith, refl, ◌≡◌, nat_tests, Bool, Err, false, if◌then◌else◌, None, Ok, OnOk, Option, Result, Some, true, PcmError}
+use Rattle.dsnoop_client.specs.Prelude.{Call, State, next_of, Capture, is_refusal, nothing_found, refusal_in, refusal_of, refused_by, Go, pass_by}
+use Rattle.dsnoop_client.specs.Prelude.{CaptureStream, Keeps, CanUse, is_running, IsSoundReader}
 use Rattle.snd_base.specs.declared.errors.PcmError.TheVariants as error
 use Rattle.snd_base.specs.declared.errors.XrunWhy.TheVariants as why
 use Rattle.mix_core.specs.declared.gate.Gate as gates
@@ -32,10 +32,8 @@ running-by other is = absurd (cc)
 prepared-by : (stopped : Bool) (s : State)
     → (if stopped then Some error.Stopped else refusal_in (next_of s call.Transfer (nothing_found Capture)).answer) ≡ None
     → is_running s ≡ false → s ≡ state.Prepared
-prepared-by true s admitted waits = absurd (cc)
 prepared-by false state.Prepared admitted waits = refl
-prepared-by false state.Running admitted waits = absurd (cc)
-prepared-by false other admitted waits = absurd (cc)
+prepared-by stopped other admitted waits = absurd (cc)
 
 pub admitted-prepared : (c : CaptureStream) → refusal_of Capture c.status call.Transfer ≡ None → is_running c.status.state ≡ false
     → c.status.state ≡ state.Prepared
@@ -44,35 +42,14 @@ admitted-prepared c admitted waits = prepared-by c.status.stopped c.status.state
 -- a refusal of the state table is no stop of the gate
 go-in : (e : PcmError) → pass_by (refused_by (if is_refusal e then Some e else None)) ≡ Go
 go-in (error.Xrun why.Already) = refl
-go-in (error.Xrun w) = refl
 go-in e = refl
 
 go-by : (stopped : Bool) (r : Result (Unit {0}) PcmError) → stopped ≡ false
     → pass_by (refused_by (let o : Option PcmError = (if stopped then Some error.Stopped else refusal_in r) in o)) ≡ Go
-go-by true r is = absurd (cc)
-go-by false (Ok done) is = refl
-go-by false (Err e) is = go-in e
+go-by stopped r is = grind (arith, nat_tests)
 
 refused-go : (c : CaptureStream) (k : Call) → c.status.stopped ≡ false → pass_by (refused_by (refusal_of Capture c.status k)) ≡ Go
 refused-go c k unstopped = go-by c.status.stopped (next_of c.status.state k (nothing_found Capture)).answer unstopped
-
-never-stopped : (refuses : Bool) (f : PcmError) → refuses ≡ is_refusal f → refused_by (if refuses then Some f else None) ≡ Err error.Stopped → ⊥
-never-stopped true f is stopped =
-    let same : f ≡ error.Stopped = cc in
-    let never : true ≡ is_refusal error.Stopped = subst (λ (e : PcmError). true ≡ is_refusal e) same is in
-    absurd (cc)
-never-stopped false f is stopped = cc
-
-stopped-by : (stopped : Bool) (r : Result (Unit {0}) PcmError) (e : PcmError)
-    → refused_by (let o : Option PcmError = (if stopped then Some error.Stopped else refusal_in r) in o) ≡ Err e → (e ≡ error.Stopped) ↔ (stopped ≡ true)
-stopped-by true r e is = (λ h. refl, λ h. cc)
-stopped-by false (Ok done) e is = absurd (cc)
-stopped-by false (Err f) e is = (λ h. absurd (never-stopped (is_refusal f) f refl (is ∙ ap Err h)), λ h. absurd (cc))
-
--- a call is refused with `Stopped` exactly where the reader was stopped
-refused-stopped : (c : CaptureStream) (k : Call) (e : PcmError) → refused_by (refusal_of Capture c.status k) ≡ Err e
-    → (e ≡ error.Stopped) ↔ (c.status.stopped ≡ true)
-refused-stopped c k e is = stopped-by c.status.stopped (next_of c.status.state k (nothing_found Capture)).answer e is
 
 same_error : {X : Type 0} (e f : PcmError) → (let r : Result X PcmError = Err e in r) ≡ Err f → e ≡ f
 same_error e f is = cc
@@ -80,17 +57,7 @@ same_error e f is = cc
 module _ {S T : Type 0} (P : snoopport.Ghosts S) (G : gates.Ghosts T) where
   refused-keeps : {X : Type 0} (s : S × T) (c : CaptureStream) (k : Call) (e : PcmError) → IsSoundReader c → CanUse c (P.view s.0)
       → refused_by (refusal_of Capture c.status k) ≡ Err e → Keeps {X = X} P G s s c c (Err e)
-  refused-keeps s c k e sound can is =
-      let stops = refused-stopped c k e is in
-      record {
-        sound = sound;
-        port = can;
-        same_ring = refl;
-        same_setup = refl;
-        stopped = (λ h. stops.0 (same_error e error.Stopped h), λ h. ap Err (stops.1 h));
-        told = λ unstopped. ap (λ (pass : Pass). stops_after pass (G.stops s.1)) (sym (ap (λ (r : Result (Unit {0}) PcmError). pass_by r) (sym is)
-            ∙ refused-go c k unstopped));
-      }
+  refused-keeps s c k e sound can is = grind (arith, nat_tests)
 
   -- a call that is refused keeps what every call keeps
   pub Keeps-refused : {X : Type 0} (s : S × T) (c : CaptureStream) (k : Call) (e : PcmError) (answer : Result X PcmError)
@@ -101,11 +68,4 @@ module _ {S T : Type 0} (P : snoopport.Ghosts S) (G : gates.Ghosts T) where
   -- a call that finds nothing to do keeps it too
   pub Keeps-still : {X : Type 0} (s : S × T) (c : CaptureStream) (x : X) → IsSoundReader c → CanUse c (P.view s.0) → c.status.stopped ≡ false
       → Keeps P G s s c c (let r : Result X PcmError = Ok x in r)
-  Keeps-still s c x sound can unstopped = record {
-    sound = sound;
-    port = can;
-    same_ring = refl;
-    same_setup = refl;
-    stopped = (λ h. cc, λ h. absurd (cc));
-    told = λ still. refl;
-  }
+  Keeps-still s c x sound can unstopped = grind (arith, nat_tests)

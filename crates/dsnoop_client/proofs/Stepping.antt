@@ -1,25 +1,20 @@
 -- What the calls that load the position, and a read, did, by the courses that they took.
-use Rattle.dsnoop_client.specs.Prelude.{ap, arith, drop, length, List, refl, subst, sym, ℕ, [], ◌*◌, ◌++◌, ◌∙◌, ◌≡◌, ◌≤◌, Bool, Err, false, IfOk, if◌then◌else◌}
-use Rattle.dsnoop_client.specs.Prelude.{IsErrAnd, nat_eq, Ok, OnOk, Option, Result, true, unwrap_or, ℤ, PcmError, Again, Xrun, Geometry, Composes}
-use Rattle.dsnoop_client.specs.Prelude.{Composes-none_before, Call, AsksCompose, Got, SnoopView, GetsAtSnoop, LoadsAtSnoop, NoLay, TakesAtSnoop, ends}
-use Rattle.dsnoop_client.specs.Prelude.{Takes-parts, CaptureStream, Answered, read_after, taken_of, waits, gets_frames, reads_first, reads_on, starts, syncs}
-use Rattle.dsnoop_client.specs.Prelude.{transfer_on, transfers, IsLookNumber, AreFrames, GivesFrames, through_all, CanUse, HasRoom, IsGoing, IsSoundReader}
-use Rattle.dsnoop_client.specs.Prelude.{IsStart, IsSync}
+use Rattle.dsnoop_client.specs.Prelude.{ap, arith, drop, length, List, refl, subst, sym, ℕ, [], ◌*◌, ◌++◌, ◌∙◌, ◌≡◌, ◌≤◌, nat_tests, Bool, Err, false, IfOk}
+use Rattle.dsnoop_client.specs.Prelude.{if◌then◌else◌, IsErrAnd, nat_eq, Ok, OnOk, Result, true, ℤ, PcmError, Again, Geometry, Composes, Composes-none_before}
+use Rattle.dsnoop_client.specs.Prelude.{Call, AsksCompose, Got, GetsAtSnoop, LoadsAtSnoop, NoLay, TakesAtSnoop, ends, Takes-parts, CaptureStream, Answered}
+use Rattle.dsnoop_client.specs.Prelude.{read_after, taken_of, waits, gets_frames, reads_first, reads_on, starts, syncs, transfer_on, transfers, IsLookNumber}
+use Rattle.dsnoop_client.specs.Prelude.{AreFrames, GivesFrames, through_all, CanUse, HasRoom, IsGoing, IsSoundReader, IsStart, IsSync}
 use Rattle.pcm_stream.specs.declared.setup.Setup.{Setup}
 use Rattle.dsnoop_client.proofs.CameTo.{gets_frames-come}
 use Rattle.dsnoop_client.proofs.Explaining.{After, NeverOvertaken, same_error, start-after, sync-after, explained-error, why-error}
 use Rattle.dsnoop_client.proofs.Reading.{IsReadExplained, read-explained}
-use Rattle.snd_base.specs.declared.errors.PcmError.TheVariants as error
-use Rattle.snd_base.specs.declared.errors.XrunWhy.TheVariants as why
 use Rattle.mix_core.specs.declared.gate.Gate as gates
 use Rattle.pcm_states.specs.declared.states.State.TheVariants as state
 use Rattle.pcm_states.specs.declared.calls.Call.TheVariants as call
 use Rattle.snoop_core.specs.declared.port.SnoopPort as snoopport
 
 no-looks : (e : PcmError) (next channels n : ℕ) → NeverOvertaken e → IsLookNumber (Err e) next channels n 0
-no-looks (Xrun (why.Overtaken frame channel word)) next channels n never = absurd never
-no-looks error.Stopped next channels n never = omega arith
-no-looks other next channels n never = refl
+no-looks other next channels n never = grind (arith, nat_tests)
 
 module _ {S T : Type 0} (P : snoopport.Ghosts S) (G : gates.Ghosts T) where
   pub syncs-after : (s t : S × T) (c : CaptureStream) (k : Call) (done : Answered (Unit {0})) → IsSoundReader c → c.status.state ≡ state.Running
@@ -48,15 +43,7 @@ module _ {S T : Type 0} (P : snoopport.Ghosts S) (G : gates.Ghosts T) where
   -- a reader that went on is ready to read
   pub After-going : (s t : S × T) (c u : CaptureStream) (answer : Result (Unit {0}) PcmError) → After P G s t c (u, answer)
       → OnOk answer (IsGoing u (P.view t.0))
-  After-going s t c u (Ok done) after =
-      let went = after.went.1 in
-      record {
-        running = went.running;
-        unstopped = went.unstopped;
-        same_geometry = ap (λ (v : SnoopView). v.geometry) went.view_is ∙ went.can_use.same_geometry ∙ sym went.same_ring;
-        saw = ap (λ (v : SnoopView). v.seen) went.view_is ∙ ap (λ (o : Option ℕ). unwrap_or o 0) (sym went.saw);
-      }
-  After-going s t c u (Err e) after = tt
+  After-going s t c u answer after = grind (arith, nat_tests)
 
   -- what followed the load of a read
   transfer_on-explained : Composes P.loaded → AsksCompose G.asked

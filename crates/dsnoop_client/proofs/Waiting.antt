@@ -1,22 +1,15 @@
 -- A reader that runs is ready to read, and a read that doesn't start a prepared one waits.
-use Rattle.dsnoop_client.specs.Prelude.{ap, arith, inl, inr, refl, subst, sym, ℕ, ◌-◌, ◌<◌, ◌≡◌, ◌≤◌, nat_tests, Bool, Err, false, IfOk, if◌then◌else◌, nat_eq}
-use Rattle.dsnoop_client.specs.Prelude.{nat_le, Ok, Result, true, PcmError, Again, is_set_up, TakesAtSnoop, CaptureStream, Answered, waits, read_course}
-use Rattle.dsnoop_client.specs.Prelude.{reads_first, Keeps, CanUse, is_running, IsReady, IsSoundReader, LoadsFor}
-use Rattle.dsnoop_client.proofs.Refusing.{Keeps-still, not-both}
+use Rattle.dsnoop_client.specs.Prelude.{arith, inl, inr, refl, subst, sym, ℕ, ◌-◌, ◌<◌, ◌≡◌, ◌≤◌, nat_tests, Bool, Err, false, IfOk, if◌then◌else◌, nat_eq}
+use Rattle.dsnoop_client.specs.Prelude.{nat_le, Ok, Result, true, PcmError, Again, TakesAtSnoop, CaptureStream, Answered, waits, read_course, reads_first}
+use Rattle.dsnoop_client.specs.Prelude.{Keeps, CanUse, is_running, IsReady, IsSoundReader, LoadsFor}
+use Rattle.dsnoop_client.proofs.Refusing.{not-both}
 use Rattle.mix_core.specs.declared.gate.Gate as gates
 use Rattle.pcm_states.specs.declared.states.State.TheVariants as state
 use Rattle.snoop_core.specs.declared.port.SnoopPort as snoopport
 
 -- the counts of a reader that runs are near each other
 pub IsReady-running : (c : CaptureStream) → IsSoundReader c → c.status.state ≡ state.Running → IsReady c
-IsReady-running c sound runs =
-    let configured = sound.configured (sound.set_up (ap is_set_up runs)) in
-    record {
-      buffer_least = configured.runs.buffer_least;
-      buffer_most = configured.runs.buffer_most;
-      captured = (sound.reading runs).most;
-      near = omega (arith, sound.seen, c.geometry.frames_most);
-    }
+IsReady-running c sound runs = grind (arith, nat_tests)
 
 reached : (threshold n : ℕ) → threshold ≤ n → nat_le threshold n ≡ true
 reached threshold n high = grind (arith, nat_tests)
@@ -44,24 +37,11 @@ module _ {S T : Type 0} (P : snoopport.Ghosts S) (G : gates.Ghosts T) where
 
   pub read-waits : (s : S × T) (c : CaptureStream) (n : ℕ) (answer : Result ℕ PcmError) → is_running c.status.state ≡ false → n < c.setup.params.start_threshold
       → answer ≡ waits n → TakesAtSnoop P G s (read_course c n) s (c, answer)
-  read-waits s c n answer still low is =
-      rw (still, missed c.setup.params.start_threshold n low) (record {
-        there = refl;
-        result = ap (λ (r : Result ℕ PcmError). let a :
-            Answered ℕ = (c, r) in a) is;
-      })
+  read-waits s c n answer still low is = grind (arith, nat_tests)
 
   keeps-waits : (s : S × T) (c : CaptureStream) (none : Bool) → IsSoundReader c → CanUse c (P.view s.0) → c.status.stopped ≡ false
       → Keeps P G s s c c (let r : Result ℕ PcmError = (if none then Ok 0 else Err Again) in r)
-  keeps-waits s c true sound can unstopped = Keeps-still P G s c 0 sound can unstopped
-  keeps-waits s c false sound can unstopped = record {
-    sound = sound;
-    port = can;
-    same_ring = refl;
-    same_setup = refl;
-    stopped = (λ h. cc, λ h. absurd (cc));
-    told = λ still. refl;
-  }
+  keeps-waits s c none sound can unstopped = grind (arith, nat_tests)
 
   pub Keeps-waits : (s : S × T) (c : CaptureStream) (n : ℕ) (answer : Result ℕ PcmError) → IsSoundReader c → CanUse c (P.view s.0) → c.status.stopped ≡ false
       → answer ≡ waits n → Keeps P G s s c c answer

@@ -1,11 +1,9 @@
 //! What a reader is after each part of a call, by what the part found.
 ghost use Rattle.std.specs.Prelude.{◌≡◌, ◌+◌, ◌^◌, ◌<◌};
-ghost use Rattle.dsnoop_client.specs.Calls.{configured_with, facts_with, after_hw_free, in_state, with_answer, new_reader, over_of, read_after, read_to, seen_at, with_outcome, after_start, started_at, stopped_in, after_sync, taken_of, waits, with_avail};
+ghost use Rattle.dsnoop_client.specs.Calls.{facts_with, after_hw_free, in_state, with_answer, new_reader, over_of, read_after, read_to, seen_at, with_outcome, after_start, started_at, stopped_in, after_sync, taken_of, waits, with_avail};
 ghost use Rattle.dsnoop_client.specs.View.{IsReady, IsReadyAt, IsReadyIf, avail_of, is_running};
 
 use crate::stream::CaptureStream;
-use bindings::Bindings;
-use hw_space::Config;
 use mix_core::Position;
 use pcm_states::{Call, Facts, Outcome, State, next};
 use pcm_stream::{Setup, Status, wrap_count};
@@ -38,16 +36,6 @@ impl CaptureStream {
         CaptureStream {
             status: self.status.in_state(state),
             ..*self
-        }
-    }
-
-    /// The reader is prepared with a configuration, with the default thresholds.
-    pub(crate) fn configured_with(&self, config: Config, bindings: Bindings) -> CaptureStream
-        ensures { result ≡ configured_with self.now config bindings }
-    {
-        CaptureStream {
-            setup: Setup::with(config, bindings),
-            ..self.in_state(State::Prepared)
         }
     }
 

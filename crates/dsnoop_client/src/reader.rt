@@ -12,7 +12,7 @@ use crate::stream::CaptureStream;
 use bindings::Bindings;
 use hw_space::Config;
 use pcm_states::{Call, State};
-use pcm_stream::Direction;
+use pcm_stream::{Direction, Setup};
 use snd_base::{Geometry, PcmError};
 use std::alloc::Global;
 use std::marker::Model;
@@ -139,7 +139,10 @@ impl Reader {
             .admit(Direction::Capture, Call::HwParams)?;
         let frame = vec![in alloc; 0i16; self.stream.geometry.channels as usize]?;
         self.frame = frame;
-        self.stream = self.stream.configured_with(config, bindings);
+        self.stream = CaptureStream {
+            setup: Setup::with(config, bindings),
+            ..self.stream.in_state(State::Prepared)
+        };
         Ok(())
     }
 

@@ -1,7 +1,7 @@
 -- What a core has mixed after each of the calls of two clients and of the card.
-use Rattle.examples.specs.Prelude.{ap, append-nil, arith, length, List, map, refl, subst, sym, ℕ, [], ◌++◌, ◌+◌, ◌∙◌, ◌∷◌, ◌≡◌, ℤ, Geometry, Segment, Taken}
-use Rattle.examples.specs.Prelude.{Entry, AreExact, AreInOrder, entry_row, Row, taken_words, core_of, TurnLaid, View, segment_of, expand, sample_at, AreSums}
-use Rattle.examples.specs.Prelude.{HasMixed, IsFresh, member_entries}
+use Rattle.examples.specs.Prelude.{ap, arith, length, List, map, refl, subst, sym, ℕ, [], ◌++◌, ◌+◌, ◌∙◌, ◌∷◌, ◌≡◌, ℤ, Geometry, Segment, Taken, Entry}
+use Rattle.examples.specs.Prelude.{AreExact, AreInOrder, entry_row, Row, taken_words, core_of, TurnLaid, View, segment_of, AreSums, HasMixed, IsFresh}
+use Rattle.examples.specs.Prelude.{member_entries}
 use Rattle.mix_core.specs.declared.event.Event.TheVariants.{Publish, Take}
 use Rattle.mix_core.specs.declared.event.Reply.TheVariants.{Published, Took}
 use Rattle.mix_core.specs.declared.turn.Turn.{Turn}
@@ -10,6 +10,7 @@ use Rattle.mix_core.specs.HistoryLaws.{laid_of-append_published, laid_of-append_
 use Rattle.mix_core.specs.Stands.{RepresentsHistory}
 use Rattle.dmix_client.specs.declared.stream.PlaybackStream.{PlaybackStream}
 use Rattle.dmix_client.specs.declared.stream.Stretch.{Stretch}
+use Rattle.dmix_client.specs.Expansion.{expand, sample_at}
 use Rattle.dmix_client.specs.Growth.{Follows, Grows, StandsFor, segment_entries}
 use Rattle.dmix_client.specs.GrowthLaws.{StandsFor-nothing}
 use Rattle.examples.proofs.Adds.{AllContinue-adds, AreAdds-entries}
@@ -60,12 +61,6 @@ HasMixed-sums v g placed taken same mixed =
 member_entries-fresh : (g : Geometry) (m : ℕ) (c : PlaybackStream) (samples : List ℤ) → IsFresh c g m → member_entries g m (segment_of c) samples ≡ []
 member_entries-fresh g m c samples fresh =
     ap (λ (s : Stretch). member_entries g m (record { source = s.source; card = s.card; whole = s.committed; part = s.part }) samples) fresh.stretch
-
--- a refused offer places nothing
-pub HasMixed-unwritten : (v : View) (g : Geometry) (m : ℕ) (c : PlaybackStream) (samples : List ℤ) (placed : List Entry) (taken : List Taken) → IsFresh c g m
-    → HasMixed v placed taken → HasMixed v (placed ++ member_entries g m (segment_of c) samples) taken
-HasMixed-unwritten v g m c samples placed taken fresh mixed =
-    subst (λ (es : List Entry). HasMixed v es taken) (sym (ap (λ (es : List Entry). placed ++ es) (member_entries-fresh g m c samples fresh) ∙ append-nil placed)) mixed
 
 -- its samples are those that it is offered
 Follows-fresh : (g : Geometry) (m : ℕ) (c : PlaybackStream) (samples : List ℤ) (n : ℕ) → IsFresh c g m → Follows c samples samples n

@@ -3,7 +3,7 @@ use Rattle.examples.specs.Prelude.{ap, append-nil, Err, List, Ok, refl, Result, 
 use Rattle.examples.specs.Prelude.{with_samples, IsRefusal, Reads, wav_file, bytes_of_pieces}
 use Rattle.std.specs.Borrow.{Bor}
 use Rattle.wav_io.specs.declared.error.WavError.{WavError}
-use Rattle.wav_io.specs.declared.error.WavError.TheVariants.{NotRiff, NotWave, NoFormat, FormatTwice, ShortFormat, Tag, Bits, Channels, RateZero, NoData, TooLong, Memory}
+use Rattle.wav_io.specs.declared.error.WavError.TheVariants.{Memory}
 use Rattle.wav_io.specs.Sound.{Sound}
 
 with_samples-nil : (r : Result Sound WavError) → with_samples [] r ≡ r
@@ -39,17 +39,7 @@ ends s after channels rate file same is =
 -- an error that comes where the file is refused so, but for want of memory
 pub refusal_from : (e : WavError) (file : Result Sound WavError) → (e ≢ Memory → file ≡ Err e) → IsRefusal e file
 refusal_from Memory file h = tt
-refusal_from NotRiff file h = h (λ is. cc)
-refusal_from NotWave file h = h (λ is. cc)
-refusal_from NoFormat file h = h (λ is. cc)
-refusal_from FormatTwice file h = h (λ is. cc)
-refusal_from ShortFormat file h = h (λ is. cc)
-refusal_from (Tag n) file h = h (λ is. cc)
-refusal_from (Bits n) file h = h (λ is. cc)
-refusal_from (Channels n) file h = h (λ is. cc)
-refusal_from RateZero file h = h (λ is. cc)
-refusal_from NoData file h = h (λ is. cc)
-refusal_from TooLong file h = h (λ is. cc)
+refusal_from other file h = h (λ is. cc)
 
 -- a call that hands on a refusal
 pub Reads-refused : (r : Result Sound WavError) (e : WavError) (file : Result Sound WavError)

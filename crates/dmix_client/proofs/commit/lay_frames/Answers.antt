@@ -6,15 +6,7 @@ use Rattle.dmix_client.proofs.Sound.{frames-le}
 use Rattle.dmix_client.proofs.commit.lay_frames.Goals as goal
 
 pub loop-done-init : goal.loop-done-init
-loop-done-init g c =
-    let stream = c.args.stream.now in
-    record {
-      view_is = refl;
-      few = omega arith;
-      cursor = omega (arith, c.requires.from_cursor);
-      takes = RestFrames-none g.P.MixPort g.G.Gate stream.identity.member stream.stretch.card stream.setup.bindings (ring_sample stream c.args.ring.now)
-          c.args.count stream.stretch.committed (c.args.port.now, c.args.gate.now);
-    }
+loop-done-init g c = record { view_is = refl; few = omega arith; cursor = omega (arith, c.requires.from_cursor); takes = RestFrames-none }
 
 pub overflow_add-result : goal.overflow_add-result
 overflow_add-result g c =
@@ -30,18 +22,11 @@ overflow_add-result g c =
 
 pub returns-in_default : goal.returns-in_default
 returns-in_default g c =
-    let s = both c.args.port.now c.args.gate.now in
-    let t = both c.loop-done.port c.loop-done.gate in
-    let u = both c.lay_run-laid.new.port c.lay_run-laid.new.gate in
-    let stream = c.args.stream.now in
-    RestFrames-run_ended g.P.MixPort g.G.Gate stream.identity.member stream.stretch.card stream.setup.bindings (ring_sample stream c.args.ring.now) c.args.count
-    stream.stretch.committed s t u
-    c.loop-done.done c.min-run.result c.lay_run-laid.result (omega (arith, c.min-run.ensures, c.loop-done.invariant.few)) c.in_default.not-Whole
-    c.loop-done.invariant.takes c.lay_run-laid.ensures
+    RestFrames-run_ended (both c.lay_run-laid.new.port c.lay_run-laid.new.gate) c.min-run.result c.lay_run-laid.result
+    (omega (arith, c.min-run.ensures, c.loop-done.invariant.few)) c.in_default.not-Whole c.loop-done.invariant.takes c.lay_run-laid.ensures
 
 pub loop-done-preserved : goal.loop-done-preserved
 loop-done-preserved g c =
-    let s = both c.args.port.now c.args.gate.now in
     let t = both c.loop-done.port c.loop-done.gate in
     let u = both c.lay_run-laid.new.port c.lay_run-laid.new.gate in
     let port = g.P.MixPort in
@@ -60,16 +45,8 @@ loop-done-preserved g c =
       view_is = marks-joined (port.view c.args.port.now) (port.view c.loop-done.port) (port.view c.lay_run-laid.new.port) _ before.view_is laid.view_is;
       few = omega (arith, c.min-run.ensures, before.few);
       cursor = omega (arith, free, commit.0);
-      takes = RestFrames-run port g.G.Gate stream.identity.member stream.stretch.card stream.setup.bindings (ring_sample stream c.args.ring.now) c.args.count
-          stream.stretch.committed s t u
-          c.loop-done.done c.min-run.result x (omega (arith, c.min-run.ensures, before.few)) c.in-Whole.is before.takes c.lay_run-laid.ensures;
+      takes = RestFrames-run c.min-run.result x (omega (arith, c.min-run.ensures, before.few)) c.in-Whole.is before.takes c.lay_run-laid.ensures;
     }
 
 pub returns : goal.returns
-returns g c =
-    let s = both c.args.port.now c.args.gate.now in
-    let t = both c.loop-done.port c.loop-done.gate in
-    let stream = c.args.stream.now in
-    RestFrames-all g.P.MixPort g.G.Gate stream.identity.member stream.stretch.card stream.setup.bindings (ring_sample stream c.args.ring.now) c.args.count
-    stream.stretch.committed s t c.loop-done.done
-    (omega (arith, c.loop-done-test.false, c.loop-done.invariant.few)) c.loop-done.invariant.takes
+returns g c = RestFrames-all (omega (arith, c.loop-done-test.false, c.loop-done.invariant.few)) c.loop-done.invariant.takes

@@ -1,4 +1,4 @@
-use Rattle.dmix_client.specs.Prelude.{ap, refl, subst, ◌∙◌, Some, load_of, PortView, LoadsAt, sync_count, TakesAt-looks}
+use Rattle.dmix_client.specs.Prelude.{ap, refl, rules, subst, ◌∙◌, Some, load_of, PortView, LoadsAt, sync_count, TakesAt-looks}
 use Rattle.dmix_client.proofs.CallLaws.{both}
 use Rattle.dmix_client.proofs.Looking.{looks-none, looks-some}
 use Rattle.dmix_client.proofs.Readiness.{IsOnCard-configured}
@@ -30,20 +30,15 @@ returns-clause-found g c =
     s t (Some c.in-Ok.position) c.lay_frames-commit.result
     (configured-moving c.args.stream.now c.args.ring.now c.requires.sound c.requires.moving).bound (λ position. refl) (returns-clause-takes g c)).found
 
-pub lay_frames-commit-requires-clause-can_add : goal.lay_frames-commit-requires-clause-can_add
-lay_frames-commit-requires-clause-can_add g c = ap (λ (v : PortView). v.can_add) c.in-Ok.ensures.step.view_is ∙ c.requires.port.can
-
-pub lay_frames-commit-requires-clause-member : goal.lay_frames-commit-requires-clause-member
-lay_frames-commit-requires-clause-member g c = ap (λ (v : PortView). v.member) c.in-Ok.ensures.step.view_is ∙ c.requires.port.same_member
-
-pub lay_frames-commit-requires-clause-bound : goal.lay_frames-commit-requires-clause-bound
-lay_frames-commit-requires-clause-bound g c =
-    IsOnCard-configured c.args.stream.now c.args.ring.now (g.P.MixPort.view c.position.new.self).geometry
-    (configured-moving c.args.stream.now c.args.ring.now c.requires.sound c.requires.moving)
-    (ap (λ (v : PortView). v.geometry) c.in-Ok.ensures.step.view_is ∙ c.requires.port.same_geometry)
-
-pub lay_frames-commit-requires-clause-buffer : goal.lay_frames-commit-requires-clause-buffer
-lay_frames-commit-requires-clause-buffer g c = (configured-moving c.args.stream.now c.args.ring.now c.requires.sound c.requires.moving).buffer_least
-
-pub lay_frames-commit-requires-clause-room : goal.lay_frames-commit-requires-clause-room
-lay_frames-commit-requires-clause-room g c = (configured-moving c.args.stream.now c.args.ring.now c.requires.sound c.requires.moving).room
+pub lay_frames-commit-requires : goal.lay_frames-commit-requires
+lay_frames-commit-requires g c = record {
+  can_add = ap (λ (v : PortView). v.can_add) c.in-Ok.ensures.step.view_is ∙ c.requires.port.can;
+  member = ap (λ (v : PortView). v.member) c.in-Ok.ensures.step.view_is ∙ c.requires.port.same_member;
+  bound = IsOnCard-configured c.args.stream.now c.args.ring.now (g.P.MixPort.view c.position.new.self).geometry
+      (configured-moving c.args.stream.now c.args.ring.now c.requires.sound c.requires.moving)
+      (ap (λ (v : PortView). v.geometry) c.in-Ok.ensures.step.view_is ∙ c.requires.port.same_geometry);
+  buffer = (configured-moving c.args.stream.now c.args.ring.now c.requires.sound c.requires.moving).buffer_least;
+  room = (configured-moving c.args.stream.now c.args.ring.now c.requires.sound c.requires.moving).room;
+  from_cursor = search rules;
+  ahead = search rules;
+}

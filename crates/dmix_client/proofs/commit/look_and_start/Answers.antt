@@ -1,5 +1,5 @@
-use Rattle.dmix_client.specs.Prelude.{ap, length, refl, subst, sym, ◌*◌, ◌∙◌, ◌≡◌, ◌≤◌, Some, Running, load_of, PortView, LoadsAt, PlaybackStream, start_count}
-use Rattle.dmix_client.specs.Prelude.{started_in, TakesAt-looks, IsOnCard}
+use Rattle.dmix_client.specs.Prelude.{ap, length, refl, rules, subst, sym, ◌*◌, ◌∙◌, ◌≡◌, ◌≤◌, Some, Running, load_of, PortView, LoadsAt, PlaybackStream}
+use Rattle.dmix_client.specs.Prelude.{start_count, started_in, TakesAt-looks, IsOnCard}
 use Rattle.dmix_client.proofs.CallLaws.{both}
 use Rattle.dmix_client.proofs.Looking.{looks-none, looks-some}
 use Rattle.dmix_client.proofs.Readiness.{IsOnCard-configured}
@@ -34,27 +34,19 @@ returns-clause-found g c =
     s t (Some c.in-Ok.position) c.lay_frames-commit.result
     (configured-prepared c.args.stream.now c.args.ring.now c.requires.sound c.requires.prepared).bound (λ position. refl) (returns-clause-takes g c)).found
 
-pub lay_frames-commit-requires-clause-can_add : goal.lay_frames-commit-requires-clause-can_add
-lay_frames-commit-requires-clause-can_add g c = ap (λ (v : PortView). v.can_add) c.in-Ok.ensures.step.view_is ∙ c.requires.port.can
-
-pub lay_frames-commit-requires-clause-member : goal.lay_frames-commit-requires-clause-member
-lay_frames-commit-requires-clause-member g c =
-    subst (λ (d : PlaybackStream). (g.P.MixPort.view c.position.new.self).member ≡ d.identity.member) (sym c.started_in-from.ensures)
-    (ap (λ (v : PortView). v.member) c.in-Ok.ensures.step.view_is ∙ c.requires.port.same_member)
-
-pub lay_frames-commit-requires-clause-bound : goal.lay_frames-commit-requires-clause-bound
-lay_frames-commit-requires-clause-bound g c =
-    subst (λ (d : PlaybackStream). IsOnCard d.setup.bindings (g.P.MixPort.view c.position.new.self).geometry) (sym c.started_in-from.ensures)
-    (IsOnCard-configured c.args.stream.now c.args.ring.now (g.P.MixPort.view c.position.new.self).geometry
-    (configured-prepared c.args.stream.now c.args.ring.now c.requires.sound c.requires.prepared)
-    (ap (λ (v : PortView). v.geometry) c.in-Ok.ensures.step.view_is ∙ c.requires.port.same_geometry))
-
-pub lay_frames-commit-requires-clause-buffer : goal.lay_frames-commit-requires-clause-buffer
-lay_frames-commit-requires-clause-buffer g c =
-    subst (λ (d : PlaybackStream). 1 ≤ d.setup.config.buffer_size) (sym c.started_in-from.ensures)
-    ((configured-prepared c.args.stream.now c.args.ring.now c.requires.sound c.requires.prepared).buffer_least)
-
-pub lay_frames-commit-requires-clause-room : goal.lay_frames-commit-requires-clause-room
-lay_frames-commit-requires-clause-room g c =
-    subst (λ (d : PlaybackStream). length c.args.ring.now ≡ d.setup.config.buffer_size * length d.setup.bindings) (sym c.started_in-from.ensures)
-    ((configured-prepared c.args.stream.now c.args.ring.now c.requires.sound c.requires.prepared).room)
+pub lay_frames-commit-requires : goal.lay_frames-commit-requires
+lay_frames-commit-requires g c = record {
+  can_add = ap (λ (v : PortView). v.can_add) c.in-Ok.ensures.step.view_is ∙ c.requires.port.can;
+  member = subst (λ (d : PlaybackStream). (g.P.MixPort.view c.position.new.self).member ≡ d.identity.member) (sym c.started_in-from.ensures)
+      (ap (λ (v : PortView). v.member) c.in-Ok.ensures.step.view_is ∙ c.requires.port.same_member);
+  bound = subst (λ (d : PlaybackStream). IsOnCard d.setup.bindings (g.P.MixPort.view c.position.new.self).geometry) (sym c.started_in-from.ensures)
+      (IsOnCard-configured c.args.stream.now c.args.ring.now (g.P.MixPort.view c.position.new.self).geometry
+      (configured-prepared c.args.stream.now c.args.ring.now c.requires.sound c.requires.prepared)
+      (ap (λ (v : PortView). v.geometry) c.in-Ok.ensures.step.view_is ∙ c.requires.port.same_geometry));
+  buffer = subst (λ (d : PlaybackStream). 1 ≤ d.setup.config.buffer_size) (sym c.started_in-from.ensures)
+      ((configured-prepared c.args.stream.now c.args.ring.now c.requires.sound c.requires.prepared).buffer_least);
+  room = subst (λ (d : PlaybackStream). length c.args.ring.now ≡ d.setup.config.buffer_size * length d.setup.bindings) (sym c.started_in-from.ensures)
+      ((configured-prepared c.args.stream.now c.args.ring.now c.requires.sound c.requires.prepared).room);
+  from_cursor = search rules;
+  ahead = search rules;
+}

@@ -13,8 +13,7 @@ loop-place-init g c = let view = g.P.MixPort.view c.args.port.now in let list = 
   view_is = refl;
   ahead = λ j least within. IsFrom-later view.marks.cursor _ _ _ (rising-least list j c.requires.bound.bound within) c.requires.from_cursor;
   bound = c.requires.bound.bound;
-  takes = Rest-none g.P.MixPort g.G.Gate view.member c.args.frame list (slot_sample c.args.ring.now c.args.slot) (rising list)
-      (c.args.port.now, c.args.gate.now);
+  takes = Rest-none;
 }
 
 pub place-answer-requires : goal.place-answer-requires
@@ -46,7 +45,6 @@ LaysAt-placed P G s t frame channel sample answer ended fits below is step =
 
 pub loop-place-preserved : goal.loop-place-preserved
 loop-place-preserved g c =
-    let s = both c.args.port.now c.args.gate.now in
     let t = both c.loop-place.port c.loop-place.gate in
     let u = both c.place-answer.new.self c.place-answer.new.gate in
     let port = g.P.MixPort in
@@ -68,15 +66,12 @@ loop-place-preserved g c =
           (behind-later (port.view c.loop-place.port).geometry frame c.bound_sample-bound.result.channel (slice_index list (slice_index (rising list) j))
           (omega (arith, bound.channel, rising-rises list c.loop-place.place j before.bound (omega arith) within)) (in_range j within));
       bound = before.bound;
-      takes = Rest-next port g.G.Gate (port.view c.args.port.now).member frame list (slot_sample c.args.ring.now c.args.slot) (rising list) s
-          t u c.loop-place.place _
-          (omega (arith, place_within, length-rising list before.bound)) (entry-bound (λ m k x. an_add m frame k x) list c.args.ring.now c.args.slot _ _ _ _ _
+      takes = Rest-next _ (omega (arith, place_within, length-rising list before.bound)) (entry-bound (λ m k x. an_add m frame k x) list c.args.ring.now c.args.slot _ _ _ _ _
           member bound.channel bound.sample) before.takes step;
     }
 
 pub returns-in_default : goal.returns-in_default
 returns-in_default g c =
-    let s = both c.args.port.now c.args.gate.now in
     let t = both c.loop-place.port c.loop-place.gate in
     let u = both c.place-answer.new.self c.place-answer.new.gate in
     let port = g.P.MixPort in
@@ -87,8 +82,7 @@ returns-in_default g c =
     let fits : SFits w16 c.bound_sample-bound.result.sample = search rules in
     let step = LaysAt-placed port g.G.Gate t u frame c.bound_sample-bound.result.channel c.bound_sample-bound.result.sample c.place-answer.result c.of.result fits
     (subst (λ (v : PortView). frame < end_frame v.geometry) (sym before.view_is) c.requires.fits) c.of.ensures c.place-answer.ensures.step in
-    Rest-ended port g.G.Gate (port.view c.args.port.now).member frame list (slot_sample c.args.ring.now c.args.slot) (rising list) s t u
-    c.loop-place.place _ c.of.result
+    Rest-ended u _ c.of.result
     (omega (arith, c.requires.channels, c.loop-place-test.true, length-rising list before.bound))
     (entry-bound (λ m k x. an_add m frame k x) list c.args.ring.now c.args.slot _ _ _ _ _ (ap (λ (v : PortView). v.member) before.view_is) bound.channel
     bound.sample) c.in_default.not-Whole before.takes step
@@ -102,5 +96,4 @@ returns g c =
     let all : c.loop-place.place ≡ c.args.channels = omega (arith, c.loop-place-test.false, c.loop-place.auto.place-end) in
     subst (λ n. TakesAt port g.G.Gate s (lay_frame (port.view c.args.port.now).member c.args.frame list
     (slot_sample c.args.ring.now c.args.slot)) t (n, Whole)) all
-    (Rest-all port g.G.Gate (port.view c.args.port.now).member c.args.frame list (slot_sample c.args.ring.now c.args.slot) (rising list) s t c.loop-place.place
-    (omega (arith, length-rising list c.requires.bound.bound, c.loop-place-test.false, c.requires.channels)) c.loop-place.invariant.takes)
+    (Rest-all (omega (arith, length-rising list c.requires.bound.bound, c.loop-place-test.false, c.requires.channels)) c.loop-place.invariant.takes)

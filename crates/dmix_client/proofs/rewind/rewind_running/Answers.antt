@@ -1,7 +1,8 @@
 use Rattle.dmix_client.specs.Prelude.{ap, refl, subst, sym, ℕ, ◌∙◌, ◌≡◌, ◌≤◌, Err, min, Cursor, Running, Marks, TakesAt, rewindable_of, takes_back, IsGoing}
 use Rattle.dmix_client.proofs.CallLaws.{both}
 use Rattle.dmix_client.proofs.Going.{OnOk-of, ok-of}
-use Rattle.dmix_client.proofs.Rewinding.{holds-by, few-of, checks-kept, rewinds-by, rewinds-kept, standing-checked}
+use Rattle.dmix_client.proofs.Rewinding.{few-of, checks-kept, rewinds-by, rewinds-kept, standing-checked}
+use Rattle.dmix_client.proofs.Withdrawing.{HoldsBy}
 use Rattle.dmix_client.proofs.rewind.rewind_running.Goals as goal
 
 pub returns-in-Err : goal.returns-in-Err
@@ -9,8 +10,7 @@ returns-in-Err g c =
     let s = both c.args.port.now c.args.gate.now in
     let t = both c.check-checked.new.port c.check-checked.new.gate in
     let port = g.P.MixPort in
-    let met = g.met.P.MixPort in
-    let holds = holds-by port met.laid_composes met.loaded_composes met.ends_in_part met.held_nothing met.held_back in
+    let holds : HoldsBy port = assumption g.met.P.MixPort in
     let takes = rewinds-by port g.G.Gate holds s t t c.args.stream.now c.args.ring.now (port.view c.args.port.now).marks.floor c.args.frames
     (c.check-checked.new.stream, c.check-checked.result) (c.check-checked.new.stream, Err c.in-Err.error) c.check-checked.ensures
     (rw c.in-Err.is (record { there = refl; result = refl })) in
@@ -25,8 +25,7 @@ take_back-requires g c =
     let port = g.P.MixPort in
     let d = c.check-checked.new.stream in
     let floor = (port.view c.args.port.now).marks.floor in
-    let met = g.met.P.MixPort in
-    let holds = holds-by port met.laid_composes met.loaded_composes met.ends_in_part met.held_nothing met.held_back in
+    let holds : HoldsBy port = assumption g.met.P.MixPort in
     let ok = ok-of c.check-checked.result c.in_default.not-Err in
     let checked = checks-kept port g.G.Gate g.met.P.MixPort.laid_composes g.met.P.MixPort.loaded_composes s t c.args.stream.now c.args.ring.now
     (d, c.check-checked.result)
@@ -53,8 +52,7 @@ returns g c =
     let port = g.P.MixPort in
     let d = c.check-checked.new.stream in
     let floor = (port.view c.args.port.now).marks.floor in
-    let met = g.met.P.MixPort in
-    let holds = holds-by port met.laid_composes met.loaded_composes met.ends_in_part met.held_nothing met.held_back in
+    let holds : HoldsBy port = assumption g.met.P.MixPort in
     let is : c.min.result ≡ min c.args.frames (rewindable_of floor d) = c.min.ensures ∙ ap (λ (k : ℕ). min c.args.frames k)
     (c.rewindable-rewindable.ensures ∙ ap (λ (x : Cursor). rewindable_of x d) c.floor-floor.ensures.value) in
     let takes = rewinds-by port G holds s t u c.args.stream.now c.args.ring.now floor c.args.frames

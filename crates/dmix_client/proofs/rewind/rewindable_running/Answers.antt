@@ -1,6 +1,7 @@
 use Rattle.dmix_client.specs.Prelude.{List, subst, ℤ, Cursor, TakesAt, course_with_number, checks, rewindable_of, IsSoundClient}
 use Rattle.dmix_client.proofs.CallLaws.{both}
-use Rattle.dmix_client.proofs.Rewinding.{holds-by, numbered-by, numbered-kept}
+use Rattle.dmix_client.proofs.Rewinding.{numbered-by, numbered-kept}
+use Rattle.dmix_client.proofs.Withdrawing.{HoldsBy}
 use Rattle.dmix_client.proofs.rewind.rewindable_running.Goals as goal
 
 pub returns : goal.returns
@@ -9,8 +10,7 @@ returns g c =
     let s = both c.args.port.now c.args.gate.now in
     let t = both c.check-checked.new.port c.check-checked.new.gate in
     let port = g.P.MixPort in
-    let met = g.met.P.MixPort in
-    let holds = holds-by port met.laid_composes met.loaded_composes met.ends_in_part met.held_nothing met.held_back in
+    let holds : HoldsBy port = assumption g.met.P.MixPort in
     let takes = subst (λ (x : Cursor). TakesAt port G s (course_with_number (rewindable_of x) (checks c.args.stream.now)) t
     (c.check-checked.new.stream, c.with_rewindable.result)) c.floor-floor.ensures.value
     (numbered-by port G holds s t c.args.stream.now (rewindable_of c.floor-floor.result) (c.check-checked.new.stream, c.check-checked.result) _

@@ -1,6 +1,7 @@
 use Rattle.dmix_client.specs.Prelude.{arith, length, refl, rules, subst, sym, ℕ, ◌-◌, run_entries, back_of, IsMoving, ring_sample}
 use Rattle.dmix_client.proofs.CallLaws.{both}
-use Rattle.dmix_client.proofs.Rewinding.{holds-by, IsBack, IsBack-of, held-last, left-few, left-part, take_frames-took, takes_back-by}
+use Rattle.dmix_client.proofs.Rewinding.{IsBack, IsBack-of, held-last, left-few, left-part, take_frames-took, takes_back-by}
+use Rattle.dmix_client.proofs.Withdrawing.{HoldsBy}
 use Rattle.dmix_client.proofs.rewind.take_back.Goals as goal
 
 pub take_frames-left-requires-clause-held : goal.take_frames-left-requires-clause-held
@@ -23,8 +24,7 @@ rewound-requires g c =
     let d = c.args.stream.now in
     let floor = (port.view c.args.port.now).marks.floor in
     let m : IsMoving d = c.requires.sound.moving (rw c.requires.running refl) c.requires.unstopped in
-    let met = g.met.P.MixPort in
-    let holds = holds-by port met.laid_composes met.loaded_composes met.ends_in_part met.held_nothing met.held_back in
+    let holds : HoldsBy port = assumption g.met.P.MixPort in
     let x = c.take_frames-left.result in
     let is = IsBack-of d floor c.args.frames m c.requires.few in
     let are = take_frames-took d c.args.ring.now floor c.args.frames c.requires.sound c.requires.running c.requires.unstopped is port g.G.Gate holds
@@ -48,8 +48,7 @@ returns g c =
     let d = c.args.stream.now in
     let floor = (port.view c.args.port.now).marks.floor in
     let m : IsMoving d = c.requires.sound.moving (rw c.requires.running refl) c.requires.unstopped in
-    let met = g.met.P.MixPort in
-    let holds = holds-by port met.laid_composes met.loaded_composes met.ends_in_part met.held_nothing met.held_back in
+    let holds : HoldsBy port = assumption g.met.P.MixPort in
     takes_back-by d c.args.ring.now floor c.args.frames c.requires.sound c.requires.running c.requires.unstopped
     (IsBack-of d floor c.args.frames m c.requires.few) port g.G.Gate holds
     s t c.back.result c.take_frames-left.result (c.rewound.new.stream, c.rewound.result) c.back.ensures c.take_frames-left.ensures (sym c.rewound.ensures)

@@ -41,7 +41,6 @@ withdraw-answer-requires g c =
 
 pub loop-place-preserved : goal.loop-place-preserved
 loop-place-preserved g c =
-    let s = both c.args.port.now c.args.gate.now in
     let t = both c.loop-place.port c.loop-place.gate in
     let u = both c.withdraw-answer.new.self c.withdraw-answer.new.gate in
     let port = g.P.MixPort in
@@ -70,14 +69,12 @@ loop-place-preserved g c =
           before.bound one before.few
           (entry-ring_sample (λ m k x. an_add m frame k x) stream c.args.ring.now c.args.number c.held_from-slot.result
           (slice_index (rising stream.setup.bindings) n) _ _ _ before.member bound.channel c.held_from-slot.ensures.value bound.sample) before.stand);
-      takes = Back-next port g.G.Gate stream.identity.member frame stream.setup.bindings samples _ s t u n c.loop-place.place _ one
-          (entry-ring_sample (λ m k x. a_withdrawal m frame k x) stream c.args.ring.now c.args.number c.held_from-slot.result
+      takes = Back-next _ one (entry-ring_sample (λ m k x. a_withdrawal m frame k x) stream c.args.ring.now c.args.number c.held_from-slot.result
           (slice_index (rising stream.setup.bindings) n) _ _ _ before.member bound.channel c.held_from-slot.ensures.value bound.sample) before.takes step;
     }
 
 pub returns-in_default : goal.returns-in_default
 returns-in_default g c =
-    let s = both c.args.port.now c.args.gate.now in
     let t = both c.loop-place.port c.loop-place.gate in
     let u = both c.withdraw-answer.new.self c.withdraw-answer.new.gate in
     let stream = c.args.stream.now in
@@ -88,18 +85,11 @@ returns-in_default g c =
     let fits : SFits w16 c.bound_sample-bound.result.sample = search rules in
     let step = LaysAt-withdrawn g.P.MixPort g.G.Gate t u frame c.bound_sample-bound.result.channel c.bound_sample-bound.result.sample c.withdraw-answer.result c.of.result fits
     c.of.ensures c.withdraw-answer.ensures.step in
-    let ended = Back-ended g.P.MixPort g.G.Gate stream.identity.member frame stream.setup.bindings (ring_sample stream c.args.ring.now c.args.number) _ s t u n
-    c.loop-place.place _ c.of.result (omega (arith, c.loop-place-test.true))
+    let ended = Back-ended u n _ c.of.result (omega (arith, c.loop-place-test.true))
     (entry-ring_sample (λ m k x. a_withdrawal m frame k x) stream c.args.ring.now c.args.number c.held_from-slot.result
     (slice_index (rising stream.setup.bindings) n) _ _ _ before.member bound.channel c.held_from-slot.ensures.value bound.sample) c.in_default.not-Whole
     before.takes step in
     rw (let one : n + 1 ≡ c.loop-place.place = omega (arith, c.loop-place-test.true) in one) ended
 
 pub returns : goal.returns
-returns g c =
-    let s = both c.args.port.now c.args.gate.now in
-    let t = both c.loop-place.port c.loop-place.gate in
-    let stream = c.args.stream.now in
-    Back-all g.P.MixPort g.G.Gate stream.identity.member (stream.stretch.card + c.args.number) stream.setup.bindings
-    (ring_sample stream c.args.ring.now c.args.number) _ s t c.loop-place.place
-    (omega (arith, c.loop-place-test.false)) c.loop-place.invariant.takes
+returns g c = Back-all (omega (arith, c.loop-place-test.false)) c.loop-place.invariant.takes

@@ -17,7 +17,6 @@ take_frame-left-requires-clause-held g c =
 pub loop-frame-preserved : goal.loop-frame-preserved
 loop-frame-preserved g c =
     let G = g.G.Gate in
-    let s = both c.args.port.now c.args.gate.now in
     let t = both c.loop-frame.port c.loop-frame.gate in
     let u = both c.take_frame-left.new.port c.take_frame-left.new.gate in
     let port = g.P.MixPort in
@@ -31,13 +30,7 @@ loop-frame-preserved g c =
     (length stream.setup.bindings)) u (c.take_frame-left.result.channels, Whole) =
     subst (λ (e : Ended). TakesAt port G t (take_each stream.identity.member (stream.stretch.card + (first + n)) stream.setup.bindings (samples (first + n))
     (length stream.setup.bindings)) u (c.take_frame-left.result.channels, e)) c.in-Whole.is c.take_frame-left.ensures in
-    let holds : HoldsBy port = record {
-      laid_composes = g.met.P.MixPort.laid_composes;
-      loaded_composes = g.met.P.MixPort.loaded_composes;
-      part = g.met.P.MixPort.ends_in_part;
-      nothing = g.met.P.MixPort.held_nothing;
-      back = g.met.P.MixPort.held_back;
-    } in
+    let holds : HoldsBy port = assumption g.met.P.MixPort in
     let floor : IsFrom (port.view c.loop-frame.port).marks.floor (stream.stretch.card + first) (least_channel stream.setup.bindings) = before.from_floor
     (omega (arith, before.few, c.loop-frame-test.true)) in
     let took = TakesAt-took port G holds stream.identity.member (stream.stretch.card + (first + n)) stream.setup.bindings (samples (first + n))
@@ -54,15 +47,13 @@ loop-frame-preserved g c =
           (took.away.held (run_entries stream.identity.member stream.setup.bindings samples stream.stretch.card first n 0)
           (stands-run port.ends_in c.loop-frame.port stream.identity.member stream.setup.bindings samples stream.stretch.card first n
           c.loop-frame.frame counted before.stand));
-      takes = BackFrames-next port G stream.identity.member stream.stretch.card stream.setup.bindings samples first c.args.count s t u
-          n c.loop-frame.frame c.take_frame-left.result.channels counted before.takes step;
+      takes = BackFrames-next c.take_frame-left.result.channels counted before.takes step;
     }
 
 pub returns-in_default : goal.returns-in_default
 returns-in_default g c =
     let s = both c.args.port.now c.args.gate.now in
     let t = both c.take_frame-left.new.port c.take_frame-left.new.gate in
-    let u = both c.loop-frame.port c.loop-frame.gate in
     let port = g.P.MixPort in
     let stream = c.args.stream.now in
     let first : ℕ = stream.stretch.committed - c.args.count in
@@ -70,16 +61,8 @@ returns-in_default g c =
     subst (λ (x : Commit). TakesAt port g.G.Gate s (take_frames stream.identity.member stream.stretch.card stream.setup.bindings
     (ring_sample stream c.args.ring.now) first c.args.count) t x)
     (let e = c.left_of.ensures in let l = c.len-channels.ensures.value in cc)
-    (BackFrames-ended port g.G.Gate stream.identity.member stream.stretch.card stream.setup.bindings (ring_sample stream c.args.ring.now)
-    first c.args.count s u t
-    n c.loop-frame.frame c.take_frame-left.result.channels c.take_frame-left.result.ended (omega (arith, c.loop-frame-test.true)) c.in_default.not-Whole
+    (BackFrames-ended t n c.take_frame-left.result.channels c.take_frame-left.result.ended (omega (arith, c.loop-frame-test.true)) c.in_default.not-Whole
     c.loop-frame.invariant.takes c.take_frame-left.ensures)
 
 pub returns : goal.returns
-returns g c =
-    let s = both c.args.port.now c.args.gate.now in
-    let t = both c.loop-frame.port c.loop-frame.gate in
-    let stream = c.args.stream.now in
-    BackFrames-all g.P.MixPort g.G.Gate stream.identity.member stream.stretch.card stream.setup.bindings (ring_sample stream c.args.ring.now)
-    (stream.stretch.committed - c.args.count) c.args.count s t c.loop-frame.frame
-    (omega (arith, c.loop-frame-test.false)) c.loop-frame.invariant.takes
+returns g c = BackFrames-all (omega (arith, c.loop-frame-test.false)) c.loop-frame.invariant.takes

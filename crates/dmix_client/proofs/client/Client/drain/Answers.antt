@@ -1,18 +1,16 @@
-use Rattle.dmix_client.specs.Prelude.{List, refl, subst, sym, ◌∙◌, ◌≡◌, Bool, false, Result, true, ℤ, ◌&&◌, PcmError, State, Prepared, is_moving}
-use Rattle.dmix_client.specs.Prelude.{PlaybackStream, has_frames, in_draining, is_prepared, syncs, AnySamples, Keeps, IsSoundClient}
+use Rattle.dmix_client.specs.Prelude.{arith, List, refl, rules, subst, sym, ◌∙◌, ◌≡◌, nat_tests, Bool, false, Result, true, ℤ, ◌&&◌, PcmError, State, Prepared}
+use Rattle.dmix_client.specs.Prelude.{is_moving, PlaybackStream, has_frames, in_draining, is_prepared, syncs, AnySamples, Keeps, IsSoundClient}
 use Rattle.dmix_client.proofs.CallLaws.{admitted-by, admitted-call, both, refused-by, refused-keeping, usable-inside}
 use Rattle.dmix_client.proofs.Going.{OnOk-of, refusal_of-unstopped}
 use Rattle.dmix_client.proofs.Keeping.{IsSoundClient-dropped, client, dropped-kept, syncs-still}
-use Rattle.dmix_client.proofs.Sound.{IsSoundClient-status, configured-moving, set_up-moving}
+use Rattle.dmix_client.proofs.Sound.{configured-moving}
 use Rattle.mix_core.specs.declared.gate.Gate as gates
 use Rattle.mix_core.specs.declared.port.MixPort as mixport
 use Rattle.pcm_states.specs.declared.calls.Call.TheVariants as call
 use Rattle.dmix_client.proofs.client.Client.drain.Goals as goal
 
 draining-sound : (c : PlaybackStream) (ring : List ℤ) → IsSoundClient c ring → is_moving c.status.state ≡ true → IsSoundClient (in_draining c) ring
-draining-sound c ring sound moves =
-    IsSoundClient-status c (in_draining c).status c.seen ring sound sound.seen (λ is. sound.set_up (set_up-moving c.status.state moves)) (λ waits. absurd (cc))
-    (λ drains going. sound.moving moves going) (λ rests. absurd (cc))
+draining-sound c ring sound moves = grind (arith, nat_tests)
 
 unlike : (b : Bool) → b ≡ true → b ≡ false → ⊥
 unlike b is_true is_false = cc
@@ -57,7 +55,7 @@ returns-then-is_moving g c =
     let moves : is_moving stream.status.state ≡ true = sym c.is_moving.ensures ∙ c.if-is_moving.true in
     let admitted = admitted-by stream call.Drain c.admit.ensures.answer c.in_ok-admit.was in
     let bound = (configured-moving stream c.self.inside.ring.items c.self.invariant moves).bound in
-    let synced = rw c.draining-self-inside.ensures at c.sync_call.ensures in
+    let synced = rw c.in_state-self-inside.ensures at c.sync_call.ensures in
     rw (← c.self.view_is, ← c.as_slice-ring.ensures.value) (admitted-call admitted (rw moves synced.takes) refl
     (keeps-draining refl synced.keeps)
     (record {
@@ -98,19 +96,18 @@ returns g c =
       starts = λ has. c.start_and_drain.ensures.explains;
     }))
 
-pub start_and_drain-requires-clause-sound : goal.start_and_drain-requires-clause-sound
-start_and_drain-requires-clause-sound g c = rw c.as_slice-ring.ensures.value c.self.invariant
-
-pub start_and_drain-requires-clause-unstopped : goal.start_and_drain-requires-clause-unstopped
-start_and_drain-requires-clause-unstopped g c = OnOk-of c.admit.result _ c.in_ok-admit.was c.admit.ensures.unstopped
-
-pub start_and_drain-requires-clause-port : goal.start_and_drain-requires-clause-port
-start_and_drain-requires-clause-port g c = usable-inside c.self.view_is c.requires
+pub start_and_drain-requires : goal.start_and_drain-requires
+start_and_drain-requires g c = record {
+  sound = rw c.as_slice-ring.ensures.value c.self.invariant;
+  prepared = search rules;
+  unstopped = OnOk-of c.admit.result _ c.in_ok-admit.was c.admit.ensures.unstopped;
+  port = usable-inside c.self.view_is c.requires;
+}
 
 pub sync_call-requires : goal.sync_call-requires
 sync_call-requires g c =
     let moves : is_moving c.self.inside.stream.status.state ≡ true = sym c.is_moving.ensures ∙ c.if-is_moving.true in
-    rw c.draining-self-inside.ensures (record {
+    rw c.in_state-self-inside.ensures (record {
       sound = rw c.as_slice-ring.ensures.value (draining-sound c.self.inside.stream c.self.inside.ring.items c.self.invariant moves);
       moving = refl;
       unstopped = OnOk-of c.admit.result _ c.in_ok-admit.was c.admit.ensures.unstopped;

@@ -37,7 +37,7 @@ returns-then-on g c =
     let stream = c.self.inside.stream in
     let s = both c.args.port.now c.args.gate.now in
     let admitted = admitted-by stream call.Pause c.admit.ensures.answer c.in_ok-admit.was in
-    rw (c.if-on.true, ← c.self.view_is, c.paused-self-inside.ensures) (admitted-call admitted (record { there = refl; result = refl }) refl
+    rw (c.if-on.true, ← c.self.view_is, c.in_state-self-inside.ensures) (admitted-call admitted (record { there = refl; result = refl }) refl
     (paused-kept g.P.MixPort g.G.Gate g.met.P.MixPort.laid_composes g.met.P.MixPort.loaded_composes s stream c.self.inside.ring.items c.self.invariant admitted)
     (record { pauses = λ on. (refl, refl, refl, refl); resumes = λ off some. absurd (unlike true refl off) }))
 
@@ -70,7 +70,7 @@ resume-requires-clause-port g c =
 pub invariant_of-self : goal.invariant_of-self
 invariant_of-self g c =
     let admitted = admitted-by c.self.inside.stream call.Pause c.admit.ensures.answer c.in_ok-admit.was in
-    rw c.paused-self-inside.ensures (IsSoundClient-paused c.self.inside.stream c.self.inside.ring.items c.self.invariant admitted)
+    rw c.in_state-self-inside.ensures (IsSoundClient-paused c.self.inside.stream c.self.inside.ring.items c.self.invariant admitted)
 
 pub invariant_of-self-2 : goal.invariant_of-self-2
 invariant_of-self-2 g c = rw (← c.as_slice-ring.ensures.value) c.resume.ensures.keeps.sound

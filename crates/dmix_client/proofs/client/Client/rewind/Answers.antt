@@ -3,7 +3,8 @@ use Rattle.dmix_client.specs.Prelude.{held_entries, without_frames, ClientView}
 use Rattle.pcm_states.specs.contracts.states.State.{the_type}
 use Rattle.dmix_client.proofs.CallLaws.{Refusal, admitted-by, admitted-call, both, refused-by, refused-call, refused-keeps, sound-seen, usable-inside}
 use Rattle.dmix_client.proofs.Going.{OnOk-of, not-both}
-use Rattle.dmix_client.proofs.Rewinding.{KeepsBack-none, few-of, holds-by, without-kept}
+use Rattle.dmix_client.proofs.Rewinding.{KeepsBack-none, few-of, without-kept}
+use Rattle.dmix_client.proofs.Withdrawing.{HoldsBy}
 use Rattle.pcm_states.specs.declared.calls.Call.TheVariants as call
 use Rattle.dmix_client.proofs.client.Client.rewind.Goals as goal
 
@@ -13,7 +14,7 @@ returns-in_err-admit g c =
     let met = g.met.P.MixPort in
     let refusal : Refusal c.args.self.now call.Transfer c.from_residual.result =
     refused-by c.self.view_is c.admit.ensures.answer c.in_err-admit.was c.from_residual.ensures.1 in
-    let holds = holds-by P met.laid_composes met.loaded_composes met.ends_in_part met.held_nothing met.held_back in
+    let holds : HoldsBy P = assumption g.met.P.MixPort in
     refused-call refusal (KeepsBack-none P g.G.Gate holds (both c.args.port.now c.args.gate.now) c.args.self.now c.from_residual.result
     (refused-keeps met.laid_composes met.loaded_composes refusal (sound-seen c.self.view_is c.self.invariant) c.requires.port))
 
@@ -28,8 +29,7 @@ returns-then-eq g c =
 pub returns : goal.returns
 returns g c =
     let P = g.P.MixPort in
-    let met = g.met.P.MixPort in
-    let holds = holds-by P met.laid_composes met.loaded_composes met.ends_in_part met.held_nothing met.held_back in
+    let holds : HoldsBy P = assumption g.met.P.MixPort in
     let stream = c.self.inside.stream in
     let taken = c.min-taken.result in
     let waits : stream.status.state ≡ Prepared = search rules in
@@ -43,22 +43,19 @@ returns g c =
     (usable-inside c.self.view_is c.requires.port))
     (λ running. absurd (not-both stream.status.state running waits)))
 
-pub rewind_running-requires-clause-sound : goal.rewind_running-requires-clause-sound
-rewind_running-requires-clause-sound g c = rw c.as_slice-ring.ensures.value c.self.invariant
-
-pub rewind_running-requires-clause-unstopped : goal.rewind_running-requires-clause-unstopped
-rewind_running-requires-clause-unstopped g c = OnOk-of c.admit.result _ c.in_ok-admit.was c.admit.ensures.unstopped
-
-pub rewind_running-requires-clause-port : goal.rewind_running-requires-clause-port
-rewind_running-requires-clause-port g c = usable-inside c.self.view_is c.requires.port
-
-pub rewind_running-requires-clause-standing : goal.rewind_running-requires-clause-standing
-rewind_running-requires-clause-standing g c =
+pub rewind_running-requires : goal.rewind_running-requires
+rewind_running-requires g c =
     let runs : c.self.inside.stream.status.state ≡ Running = same_true the_type (search rules) _ _ (sym c.if-eq.ensures) in
     let unstopped : c.self.inside.stream.status.stopped ≡ false = OnOk-of c.admit.result _ c.in_ok-admit.was c.admit.ensures.unstopped in
-    rw c.as_slice-ring.ensures.value (subst (λ (v : ClientView). g.P.MixPort.ends_in c.args.port.now (held_entries v.stream v.ring)) (sym c.self.view_is)
-    (c.requires.standing (subst (λ (v : ClientView). v.stream.status.state ≡ Running) c.self.view_is runs)
-    (subst (λ (v : ClientView). v.stream.status.stopped ≡ false) c.self.view_is unstopped)))
+    record {
+      sound = rw c.as_slice-ring.ensures.value c.self.invariant;
+      running = search rules;
+      unstopped = OnOk-of c.admit.result _ c.in_ok-admit.was c.admit.ensures.unstopped;
+      port = usable-inside c.self.view_is c.requires.port;
+      standing = rw c.as_slice-ring.ensures.value (subst (λ (v : ClientView). g.P.MixPort.ends_in c.args.port.now (held_entries v.stream v.ring)) (sym c.self.view_is)
+          (c.requires.standing (subst (λ (v : ClientView). v.stream.status.state ≡ Running) c.self.view_is runs)
+          (subst (λ (v : ClientView). v.stream.status.stopped ≡ false) c.self.view_is unstopped)));
+    }
 
 pub invariant_of-self : goal.invariant_of-self
 invariant_of-self g c = rw (← c.as_slice-ring.ensures.value) c.rewind_running.ensures.keeps.sound

@@ -28,14 +28,13 @@ returns g c =
     (rw rests (record { there = refl; result = refl })) c.self.invariant (usable-inside c.self.view_is c.requires) refl
     (λ running. absurd (not-both stream.status.state running waits)))
 
-pub rewindable_running-requires-clause-sound : goal.rewindable_running-requires-clause-sound
-rewindable_running-requires-clause-sound g c = (c.self.inside.ring.items, c.self.invariant)
-
-pub rewindable_running-requires-clause-unstopped : goal.rewindable_running-requires-clause-unstopped
-rewindable_running-requires-clause-unstopped g c = OnOk-of c.admit.result _ c.in_ok-admit.was c.admit.ensures.unstopped
-
-pub rewindable_running-requires-clause-port : goal.rewindable_running-requires-clause-port
-rewindable_running-requires-clause-port g c = usable-inside c.self.view_is c.requires
+pub rewindable_running-requires : goal.rewindable_running-requires
+rewindable_running-requires g c = record {
+  sound = (c.self.inside.ring.items, c.self.invariant);
+  running = search rules;
+  unstopped = OnOk-of c.admit.result _ c.in_ok-admit.was c.admit.ensures.unstopped;
+  port = usable-inside c.self.view_is c.requires;
+}
 
 pub invariant_of-self : goal.invariant_of-self
 invariant_of-self g c = (c.rewindable_running.ensures.keeps c.self.inside.ring.items c.self.invariant).sound

@@ -1,6 +1,6 @@
-use Rattle.dmix_client.specs.Prelude.{ap, arith, List, refl, rules, subst, sym, ℕ, ◌<◌, ◌≡◌, nat_tests, Bool, Err, false, if◌then◌else◌, nat_eq, None, Option}
-use Rattle.dmix_client.specs.Prelude.{Some, true, ℤ, PcmError, Empty, Cursor, State, Prepared, next_of, Playback, nothing_found, refusal_in, TakesAt}
-use Rattle.dmix_client.specs.Prelude.{PlaybackStream, Answered, in_state, with_outcome, start_course}
+use Rattle.dmix_client.specs.Prelude.{arith, List, refl, rules, ℕ, ◌<◌, ◌≡◌, nat_tests, Bool, Err, false, if◌then◌else◌, nat_eq, None, Option, Some, ℤ}
+use Rattle.dmix_client.specs.Prelude.{PcmError, Empty, Cursor, State, Prepared, next_of, Playback, nothing_found, refusal_in, TakesAt, PlaybackStream, Answered}
+use Rattle.dmix_client.specs.Prelude.{start_course}
 use Rattle.snd_base.specs.declared.errors.PcmError.TheVariants.{Xrun}
 use Rattle.dmix_client.proofs.CallLaws.{admitted-by, admitted-call, both, refused-by, refused-keeping, resting-call, usable-inside}
 use Rattle.snd_base.specs.declared.errors.PcmError.TheVariants as error
@@ -19,24 +19,14 @@ written-some n some = grind (arith, nat_tests, some)
 start-prepared : (stopped : Bool) (s : State)
     → (let o : Option PcmError = (if stopped then Some error.Stopped else refusal_in (next_of s call.Start (nothing_found Playback)).answer) in
     o) ≡ None → s ≡ Prepared
-start-prepared true s is = absurd (cc)
 start-prepared false Prepared is = refl
-start-prepared false s is = absurd (cc)
+start-prepared stopped s is = absurd (cc)
 
 module _ {S T : Type 0} (P : mixport.Ghosts S) (G : gates.Ghosts T) where
   -- the start of a client that has no frames
   start-none : (s : S × T) (c : PlaybackStream) (ring : List ℤ) (cursor : Cursor) → c.stretch.written ≡ 0 → c.status.state ≡ Prepared
       → TakesAt P G s (start_course c ring cursor) s (let x : Answered (Unit {0}) = (c, Err (Xrun Empty)) in x)
-  start-none s c ring cursor none waits =
-      let test : nat_eq c.stretch.written 0 ≡ true = ap (λ (n : ℕ). nat_eq n 0) none in
-      let empty : PlaybackStream → Answered (Unit {0}) = λ d. (d, Err (Xrun Empty)) in
-      let stays : empty c ≡ with_outcome c (next_of Prepared call.Start (record (nothing_found Playback) { queued = 0 })) = ap (λ (state : State). empty
-      (in_state c state)) waits in
-      rw test (record {
-        there = refl;
-        result = subst (λ (state : State). empty c ≡ with_outcome c (next_of state call.Start
-            (record (nothing_found Playback) { queued = 0 }))) (sym waits) stays;
-      })
+  start-none s c ring cursor none waits = grind (arith, nat_tests)
 
 pub returns-in_err-admit : goal.returns-in_err-admit
 returns-in_err-admit g c =

@@ -61,18 +61,16 @@ returns g c =
       again = λ found running. absurd (not-both stream.status.state running waits);
     })
 
-pub write_running-answer-requires-clause-sound : goal.write_running-answer-requires-clause-sound
-write_running-answer-requires-clause-sound g c = rw c.as_mut_slice-ring.ensures.value c.self.invariant
-
-pub write_running-answer-requires-clause-unstopped : goal.write_running-answer-requires-clause-unstopped
-write_running-answer-requires-clause-unstopped g c = OnOk-of c.admit.result _ c.in_ok-admit.was c.admit.ensures.unstopped
-
-pub write_running-answer-requires-clause-held : goal.write_running-answer-requires-clause-held
-write_running-answer-requires-clause-held g c = c.whole_frames-frames.ensures.held
-
-pub write_running-answer-requires-clause-port : goal.write_running-answer-requires-clause-port
-write_running-answer-requires-clause-port g c =
-    usable-inside c.self.view_is c.requires.port
+pub write_running-answer-requires : goal.write_running-answer-requires
+write_running-answer-requires g c = record {
+  sound = rw c.as_mut_slice-ring.ensures.value c.self.invariant;
+  running = search rules;
+  unstopped = OnOk-of c.admit.result _ c.in_ok-admit.was c.admit.ensures.unstopped;
+  held = c.whole_frames-frames.ensures.held;
+  few = search rules;
+  fed = search rules;
+  port = usable-inside c.self.view_is c.requires.port;
+}
 
 pub write_prepared-answer-requires-clause-sound : goal.write_prepared-answer-requires-clause-sound
 write_prepared-answer-requires-clause-sound g c = rw c.as_mut_slice-ring.ensures.value c.self.invariant

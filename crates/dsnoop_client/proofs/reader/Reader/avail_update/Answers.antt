@@ -1,5 +1,5 @@
-use Rattle.dsnoop_client.specs.Prelude.{ap, refl, subst, sym, ℕ, ◌∙◌, ◌≡◌, Err, false, Ok, true, CaptureStream, Answered, with_avail, syncs, Keeps, is_running}
-use Rattle.snd_base.specs.declared.errors.PcmError.TheVariants.{Stopped}
+use Rattle.dsnoop_client.specs.Prelude.{arith, refl, rules, subst, sym, ℕ, ◌∙◌, ◌≡◌, nat_tests, false, true, CaptureStream, Answered, with_avail, syncs, Keeps}
+use Rattle.dsnoop_client.specs.Prelude.{is_running}
 use Rattle.dsnoop_client.proofs.CallLaws.{admitted-by, admitted-call, both, refused-by, refused-call, resting-call, usable-inside}
 use Rattle.dsnoop_client.proofs.Explaining.{why-avail}
 use Rattle.dsnoop_client.proofs.Loading.{counts-by}
@@ -12,22 +12,7 @@ use Rattle.dsnoop_client.proofs.reader.Reader.avail_update.Goals as goal
 module _ {S T : Type 0} (P : snoopport.Ghosts S) (G : gates.Ghosts T) where
   -- what a sync keeps, it keeps with a number in its answer
   Keeps-avail : (s t : S × T) (c : CaptureStream) (a : Answered (Unit {0})) → Keeps P G s t c a.0 a.1 → Keeps P G s t c (with_avail a).0 (with_avail a).1
-  Keeps-avail s t c (d, Ok done) k = record {
-    sound = k.sound;
-    port = k.port;
-    same_ring = k.same_ring;
-    same_setup = k.same_setup;
-    stopped = (λ h. cc, λ h. let no = k.stopped.1 h in cc);
-    told = k.told;
-  }
-  Keeps-avail s t c (d, Err e) k = record {
-    sound = k.sound;
-    port = k.port;
-    same_ring = k.same_ring;
-    same_setup = k.same_setup;
-    stopped = (λ h. let same : e ≡ Stopped = cc in k.stopped.0 (ap Err same), λ h. let is = k.stopped.1 h in let same : e ≡ Stopped = cc in ap Err same);
-    told = k.told;
-  }
+  Keeps-avail s t c a k = grind (arith, nat_tests)
 
 pub returns-in_err-admit : goal.returns-in_err-admit
 returns-in_err-admit g c =
@@ -62,14 +47,11 @@ returns g c =
     (λ running. why-avail P c.args.port.now c.sync_call-answer.new.port stream after c.sync_call-answer.result c.with_avail.result c.with_avail.ensures
     c.sync_call-answer.ensures.causes))
 
-pub sync_call-answer-requires-clause-sound : goal.sync_call-answer-requires-clause-sound
-sync_call-answer-requires-clause-sound g c = c.self.invariant.0
-
-pub sync_call-answer-requires-clause-running : goal.sync_call-answer-requires-clause-running
-sync_call-answer-requires-clause-running g c = running-by c.self.inside.stream.status.state (sym c.is_running.ensures ∙ c.if-not-is_running.false)
-
-pub sync_call-answer-requires-clause-unstopped : goal.sync_call-answer-requires-clause-unstopped
-sync_call-answer-requires-clause-unstopped g c = OnOk-of c.admit.result _ c.in_ok-admit.was c.admit.ensures.unstopped
-
-pub sync_call-answer-requires-clause-port : goal.sync_call-answer-requires-clause-port
-sync_call-answer-requires-clause-port g c = usable-inside c.self.view_is c.requires
+pub sync_call-answer-requires : goal.sync_call-answer-requires
+sync_call-answer-requires g c = record {
+  sound = c.self.invariant.0;
+  running = running-by c.self.inside.stream.status.state (sym c.is_running.ensures ∙ c.if-not-is_running.false);
+  unstopped = OnOk-of c.admit.result _ c.in_ok-admit.was c.admit.ensures.unstopped;
+  sync = search rules;
+  port = usable-inside c.self.view_is c.requires;
+}

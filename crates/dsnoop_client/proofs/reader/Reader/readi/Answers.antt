@@ -1,3 +1,4 @@
+use Rattle.std.proofs.Common.{rules}
 use Rattle.std.proofs.Common.{refl}
 use Rattle.pcm_states.specs.declared.calls.Call.TheVariants as call
 use Rattle.dsnoop_client.proofs.CallLaws.{Refusal, admitted-by, both, never-admitted, refused-answer, refused-by, refused-takes, sound-seen, usable-inside}
@@ -25,12 +26,10 @@ returns-in_err-admit g c =
 pub returns : goal.returns
 returns g c = rw (← c.self.view_is, c.frames_answer.ensures) c.read_admitted-answer.ensures.reads
 
-pub read_admitted-answer-requires-clause-sound : goal.read_admitted-answer-requires-clause-sound
-read_admitted-answer-requires-clause-sound g c = c.self.invariant.0
-
-pub read_admitted-answer-requires-clause-admitted : goal.read_admitted-answer-requires-clause-admitted
-read_admitted-answer-requires-clause-admitted g c =
-    admitted-by c.self.inside.stream call.Transfer c.admit.ensures.answer c.in_ok-admit.was
-
-pub read_admitted-answer-requires-clause-port : goal.read_admitted-answer-requires-clause-port
-read_admitted-answer-requires-clause-port g c = usable-inside c.self.view_is c.requires.port
+pub read_admitted-answer-requires : goal.read_admitted-answer-requires
+read_admitted-answer-requires g c = record {
+  sound = c.self.invariant.0;
+  admitted = admitted-by c.self.inside.stream call.Transfer c.admit.ensures.answer c.in_ok-admit.was;
+  port = usable-inside c.self.view_is c.requires.port;
+  room = search rules;
+}

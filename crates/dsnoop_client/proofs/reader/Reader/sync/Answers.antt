@@ -1,4 +1,4 @@
-use Rattle.dsnoop_client.specs.Prelude.{refl, sym, ◌∙◌, ◌≡◌, false, true, is_running}
+use Rattle.dsnoop_client.specs.Prelude.{refl, rules, sym, ◌∙◌, ◌≡◌, false, true, is_running}
 use Rattle.dsnoop_client.proofs.CallLaws.{admitted-by, admitted-call, refused-by, refused-call, resting-call, usable-inside}
 use Rattle.dsnoop_client.proofs.Refusing.{OnOk-of, not-both, running-by}
 use Rattle.pcm_states.specs.declared.calls.Call.TheVariants as call
@@ -27,14 +27,11 @@ returns g c =
     rw (← c.self.view_is) (admitted-call admitted (rw runs c.sync_call.ensures.takes) c.sync_call.ensures.keeps
     (λ running. c.sync_call.ensures.causes))
 
-pub sync_call-requires-clause-sound : goal.sync_call-requires-clause-sound
-sync_call-requires-clause-sound g c = c.self.invariant.0
-
-pub sync_call-requires-clause-running : goal.sync_call-requires-clause-running
-sync_call-requires-clause-running g c = running-by c.self.inside.stream.status.state (sym c.is_running.ensures ∙ c.if-not-is_running.false)
-
-pub sync_call-requires-clause-unstopped : goal.sync_call-requires-clause-unstopped
-sync_call-requires-clause-unstopped g c = OnOk-of c.admit.result _ c.in_ok-admit.was c.admit.ensures.unstopped
-
-pub sync_call-requires-clause-port : goal.sync_call-requires-clause-port
-sync_call-requires-clause-port g c = usable-inside c.self.view_is c.requires
+pub sync_call-requires : goal.sync_call-requires
+sync_call-requires g c = record {
+  sound = c.self.invariant.0;
+  running = running-by c.self.inside.stream.status.state (sym c.is_running.ensures ∙ c.if-not-is_running.false);
+  unstopped = OnOk-of c.admit.result _ c.in_ok-admit.was c.admit.ensures.unstopped;
+  sync = search rules;
+  port = usable-inside c.self.view_is c.requires;
+}
