@@ -86,24 +86,10 @@ offered-after s c samples offered n bound whole laid is = (
 -- each other call that a state admits is of a stream with a configuration
 pub admitted-set_up : (what : Call) (stopped : Bool) (s : State) → (what ≡ call.HwParams → ⊥) → refusal_of Playback (record { state = s; stopped = stopped }) what ≡ None → is_set_up s ≡ true
 admitted-set_up what true s other is = absurd (cc)
-admitted-set_up what false state.Setup other is = refl
-admitted-set_up what false state.Prepared other is = refl
-admitted-set_up what false state.Running other is = refl
-admitted-set_up what false state.Xrun other is = refl
-admitted-set_up what false state.Draining other is = refl
-admitted-set_up what false state.Paused other is = refl
-admitted-set_up what false state.Suspended other is = refl
 admitted-set_up call.HwParams false s other is = absurd (other refl)
-admitted-set_up call.HwFree false s other is = absurd (cc)
-admitted-set_up call.SwParams false s other is = absurd (cc)
-admitted-set_up call.Prepare false s other is = absurd (cc)
-admitted-set_up call.Start false s other is = absurd (cc)
-admitted-set_up call.Transfer false s other is = absurd (cc)
-admitted-set_up call.Sync false s other is = absurd (cc)
-admitted-set_up call.Drop false s other is = absurd (cc)
-admitted-set_up call.Drain false s other is = absurd (cc)
-admitted-set_up call.Pause false s other is = absurd (cc)
-admitted-set_up call.Resume false s other is = absurd (cc)
+admitted-set_up what false state.Open other is = absurd (cc)
+admitted-set_up what false state.Disconnected other is = absurd (cc)
+admitted-set_up what false s other is = refl
 
 pub still-set_up : (what : Call) (c : ClientView) → (what ≡ call.HwParams → ⊥) → IsSoundClient c.stream c.ring → refusal_of Playback c.stream.status what ≡ None → c.stream.setup.configured ≡ true
 still-set_up what c other sound admitted = sound.set_up (admitted-set_up what c.stream.status.stopped c.stream.status.state other admitted)

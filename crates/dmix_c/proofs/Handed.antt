@@ -1,14 +1,13 @@
 -- A call by a handle, from the call by what it stands for.
-use Rattle.dmix_c.specs.Prelude.{subst, sym, ℤ, ◌≡◌, Option, Some, Opened}
+use Rattle.dmix_c.specs.Prelude.{ap, subst, sym, ℤ, ◌∙◌, ◌≡◌, Option, Some, Opened}
 
--- of any relation of what a handle stands for before and after: `taken` was taken, `given` put back
-pub handed : (Does : Option Opened → Option Opened → ℤ → Type 0) (before after : Option Opened) (taken given was : Opened) (answer said : ℤ)
-    → before ≡ Some was → taken ≡ was → after ≡ Some given → said ≡ answer → Does (Some taken) (Some given) answer → Does before after said
-handed Does before after taken given was answer said is_taken is_was is_given is_said does =
+-- of any relation of what a handle stands for before and after: `was` was taken from it, and `given` put back
+pub handed : (Does : Option Opened → Option Opened → ℤ → Type 0) {before after : Option Opened} {taken seen given : Opened} (was : Opened) {answer said : ℤ}
+    → before ≡ Some taken → seen ≡ taken → seen ≡ was → after ≡ Some given → said ≡ answer → Does (Some was) (Some given) answer → Does before after said
+handed Does {before} {after} {given = given} was {answer} is_taken is_seen is_was is_given is_said does =
     subst (λ (z : ℤ). Does before after z) (sym is_said)
     (subst (λ (h : Option Opened). Does before h answer) (sym is_given)
-    (subst (λ (h : Option Opened). Does h (Some given) answer) (sym is_taken)
-    (subst (λ (o : Opened). Does (Some o) (Some given) answer) is_was does)))
+    (subst (λ (h : Option Opened). Does h (Some given) answer) (ap (λ (o : Opened). Some o) (sym is_was ∙ is_seen) ∙ sym is_taken) does))
 
 -- and of what it was before a call, and is afterwards
 pub called : (Does : Option Opened → Option Opened → ℤ → Type 0) (before after was given : Opened) (answer said : ℤ)

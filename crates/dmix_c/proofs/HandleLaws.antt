@@ -49,12 +49,6 @@ module _ (r t : OpenRing) (reader : Option Opened) (answer : ℤ) (keeps : Keeps
   pub OpensReaderAt-done : (p : Recording) (made : Opened) → GivesReader t p → made ≡ Reader p → reader ≡ Some made → answer ≡ pos 0 → OpensReaderAt r t reader answer
   OpensReaderAt-done p made gives is found done = (keeps, inl (p, found ∙ ap (λ (o : Opened). Some o) is, gives, done))
 
--- by the handle of a ring
-pub OpensBy-ring : (At : OpenRing → OpenRing → Option Opened → ℤ → Type 0) (before after : Opened) (r t : OpenRing) (stream : Option Opened) (answer : ℤ)
-    → before ≡ Ring r → after ≡ Ring t → At r t stream answer → OpensBy At (Some before) stream (Some after) answer
-OpensBy-ring At before after r t stream answer is_r is_t opens =
-    subst (λ (o : Opened). OpensBy At (Some o) stream (Some after) answer) (sym is_r) (t, ap (λ (o : Opened). Some o) is_t, opens)
-
 -- a handle that isn't open stands for nothing
 pub closed-none : (handle : Option Opened) (test : Bool) → (IsTrue test ↔ IsSome handle) → test ≡ false → handle ≡ None
 closed-none None test tells shut = refl

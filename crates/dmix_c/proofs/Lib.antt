@@ -1,5 +1,4 @@
 pub mod Backing
-pub mod Boxes
 pub mod Counted
 pub mod FreePlaces
 pub mod Handed

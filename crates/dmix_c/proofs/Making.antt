@@ -1,10 +1,9 @@
 -- A call of a client at its seat, from what the client's own call says.
 use Rattle.dmix_c.specs.Prelude.{ap, List, refl, subst, sym, ℕ, ℤ, ◌∙◌, ◌≡◌, false≢true, Err, false, None, Ok, Option, Result, Some, PcmError, Call, Playback}
 use Rattle.dmix_c.specs.Prelude.{is_moving, refusal_of, NeverStops, PortView, MixSeat, seat_view, LaysAt, LoadsAt, NoGet, TakesAt, Course, ends, Takes-map}
-use Rattle.dmix_c.specs.Prelude.{Gives, CountsStop, PlaybackStream, Answered, CanUse, ClientView, IsSoundClient, done_of, IsBackedBy, StaysBacked, call_course}
-use Rattle.dmix_c.specs.Prelude.{done_course, HasMade, ring_after, no_gate, seat_port, TakesAt-goes}
+use Rattle.dmix_c.specs.Prelude.{Gives, CountsStop, PlaybackStream, Calls, Answered, CanUse, ClientView, IsSoundClient, done_of, IsBackedBy, StaysBacked}
+use Rattle.dmix_c.specs.Prelude.{call_course, done_course, HasMade, ring_after, no_gate, seat_port, TakesAt-goes}
 use Rattle.dmix_client.specs.declared.stream.Identity.{Identity}
-use Rattle.dmix_client.specs.CallRelations.{Calls}
 use Rattle.dmix_client.specs.Course.{admitted_by, if_admitted}
 use Rattle.dmix_c.specs.declared.client_calls.ClientCall.{ClientCall}
 use Rattle.dmix_c.proofs.Backing.{still-configured}
@@ -44,16 +43,7 @@ made-by : {asked : ClientCall} {s t : MixSeat} (g h : NeverStops) {c d : ClientV
     → TakesAt seat_port no_gate (s, g) (call_course asked c (seat_view s).marks) (t, h) (d.stream, made)
     → d.ring ≡ ring_after asked made c.ring → (c.stream.status.stopped ≡ false → d.stream.status.stopped ≡ false) → CanUse d.stream (seat_view t)
     → StaysBacked s c t d → HasMade asked s c t d made
-made-by g h takes ring unstopped usable stays = record {
-  before = g;
-  after = h;
-  takes = takes;
-  ring = ring;
-  unstopped = unstopped;
-  usable = usable;
-  goes = TakesAt-goes _ _ _ _ takes;
-  stays = stays;
-}
+made-by g h takes ring unstopped usable stays = assumption (TakesAt-goes _ _ _ _ takes)
 
 -- a call with steps, which gives no configuration, by the samples of its segment: where it ends in what the client's own call answers
 pub made-stepping : {asked : ClientCall} (named : ClientCall) {what : Call} {s t : MixSeat × NeverStops} {c d : ClientView} {X Frame Cause : Type 0}

@@ -36,35 +36,40 @@ CanUse-seen c d v same saw usable = record {
 }
 
 -- a call by its course
-pub reader-made-by : (asked named : ReaderCall) (s t : ReaderSeat) (g h : NeverStops) (c d : CaptureStream) (made : Result ℕ PcmError)
+pub reader-made-by : {asked : ReaderCall} (named : ReaderCall) {s t : ReaderSeat} (g h : NeverStops) {c d : CaptureStream} {made : Result ℕ PcmError}
     → asked ≡ named → TakesAtSnoop reader_port no_gate (s, g) (reader_course named c) (t, h) (d, made) → (c.status.stopped ≡ false → d.status.stopped ≡ false)
     → CanUse d (seat_view t) → ReaderHasMade asked s c t d made
-reader-made-by asked named s t g h c d made is takes unstopped usable = subst (λ (a : ReaderCall). ReaderHasMade a s c t d made) (sym is) (record {
-  before = g;
-  after = h;
-  takes = takes;
-  unstopped = unstopped;
-  usable = usable;
-  goes = TakesAtSnoop-goes (s, g) (t, h) (reader_course named c) (d, made) takes;
-})
+reader-made-by named {s = s} {t = t} g h {c = c} {d = d} {made = made} is takes unstopped usable =
+    subst (λ (a : ReaderCall). ReaderHasMade a s c t d made) (sym is) (record {
+      before = g;
+      after = h;
+      takes = takes;
+      unstopped = unstopped;
+      usable = usable;
+      goes = TakesAtSnoop-goes (s, g) (t, h) (reader_course named c) (d, made) takes;
+    })
 
 -- a call without steps, which leaves the reader as `end`
-pub reader-made-plain : (asked named : ReaderCall) (what : Call) (s : ReaderSeat) (g : NeverStops) (c d end : CaptureStream) (result : Result (Unit {0}) PcmError) (made : Result ℕ PcmError)
+pub reader-made-plain : {asked : ReaderCall} (named : ReaderCall) (what : Call) {s : ReaderSeat} (g : NeverStops) {c d : CaptureStream} (end : CaptureStream)
+    (result : Result (Unit {0}) PcmError) {made : Result ℕ PcmError}
     → asked ≡ named → reader_course named c ≡ reader_done (if_admitted c what (ends (end, Ok tt)))
     → end.geometry ≡ c.geometry → end.seen ≡ c.seen → end.status.stopped ≡ c.status.stopped → CanUse c (seat_view s)
     → ((e : PcmError) → refusal_of Capture c.status what ≡ Some e → (result ≡ Err e) × (d ≡ c))
     → (refusal_of Capture c.status what ≡ None → (result ≡ Ok tt) × (d ≡ end))
     → made ≡ done_of result → ReaderHasMade asked s c s d made
-reader-made-plain asked named what s g c d end result made named_is course_is same saw kept usable refused goes is = by_refusal (refusal_of Capture c.status what) refl
+reader-made-plain {asked = asked} named what {s = s} g {c = c} {d = d} end result {made = made} named_is course_is same saw kept usable refused goes is =
+    by_refusal (refusal_of Capture c.status what) refl
   where
     takes : TakesAtSnoop reader_port no_gate (s, g) (reader_course named c) (s, g) (d, made)
     takes = subst (λ (m : Course (Answered ℕ)). TakesAtSnoop reader_port no_gate (s, g) m (s, g) (d, made)) (sym course_is)
         (reader_done-taken (s, g) (s, g) (if_admitted c what (ends (end, Ok tt))) d result made (admitted-taken (s, g) c d what (end, Ok tt) result refused goes) is)
 
+    -- what it leaves, where that is a reader `v`
+    left_as : (v : CaptureStream) → d ≡ v → v.status.stopped ≡ c.status.stopped → CanUse v (seat_view s) → ReaderHasMade asked s c s d made
+    left_as v is_left kept_so usable_so =
+        reader-made-by named g g named_is takes (λ still. ap (λ (u : CaptureStream). u.status.stopped) is_left ∙ (kept_so ∙ still))
+        (subst (λ (u : CaptureStream). CanUse u (seat_view s)) (sym is_left) usable_so)
+
     by_refusal : (refusal : Option PcmError) → refusal_of Capture c.status what ≡ refusal → ReaderHasMade asked s c s d made
-    by_refusal None found =
-        reader-made-by asked named s s g g c d made named_is takes (λ still. ap (λ (v : CaptureStream). v.status.stopped) (goes found).1 ∙ (kept ∙ still))
-        (subst (λ (v : CaptureStream). CanUse v (seat_view s)) (sym (goes found).1) (CanUse-seen c end (seat_view s) same saw usable))
-    by_refusal (Some e) found =
-        reader-made-by asked named s s g g c d made named_is takes (λ still. ap (λ (v : CaptureStream). v.status.stopped) (refused e found).1 ∙ still)
-        (subst (λ (v : CaptureStream). CanUse v (seat_view s)) (sym (refused e found).1) usable)
+    by_refusal None found = left_as end (goes found).1 kept (CanUse-seen c end (seat_view s) same saw usable)
+    by_refusal (Some e) found = left_as c (refused e found).1 refl usable

@@ -1,7 +1,7 @@
 -- A ring keeps its places, and the ways of its places lead to it.
 use Rattle.dmix_c.specs.Prelude.{ap, arith, get_or, inl, inr, length, List, refl, set, subst, suc, sym, zero, ℕ, [], ◌++◌, ◌<◌, ◌∙◌, ◌∷◌, ◌≡◌, cases_eq}
-use Rattle.dmix_c.specs.Prelude.{get_or-set_other, get_or-set_same, get_or_default, none-some, same_Some, All, IfSome, IsSome, None, Option, Some, Global}
-use Rattle.dmix_c.specs.Prelude.{received, Consumer, Geometry, MixSeat, TableId, ReaderSeat, Lobby, free_seats, IsSilentSeat, key_of_lobby, places_of_lobby}
+use Rattle.dmix_c.specs.Prelude.{get_or-set_other, get_or-set_same, get_or_default, none-some, All, IfSome, IsSome, None, Option, Some, Global, received}
+use Rattle.dmix_c.specs.Prelude.{Consumer, Geometry, MixSeat, TableId, ReaderSeat, Lobby, free_seats, IsSilentSeat, key_of_lobby, places_of_lobby}
 use Rattle.dmix_c.specs.Prelude.{ring_of_lobby, IsPlace, OpenRing, OnePlace, IsFree, KeepsRing, source_of, AreOfPlace, IsSamePlace, AreNone, IsOfRing, LeadsTo}
 use Rattle.dmix_c.specs.Prelude.{LeadTo}
 use Rattle.sum_table.specs.declared.view.Key.{Key}
@@ -54,24 +54,14 @@ pub LeadTo-same : (ring to : TableId) (key at : Key) (ways : List (Option Arriva
 LeadTo-same ring to key at ways same_ring same_key lead =
     subst (λ (k : Key). LeadTo to k ways) (sym same_key) (subst (λ (r : TableId). LeadTo r key ways) (sym same_ring) lead)
 
--- a way more
-pub LeadTo-set : (ring : TableId) (key : Key) (ways : List (Option Arrivals)) (place : ℕ) (w : Arrivals) → place < length ways
-    → LeadTo ring key ways → LeadsTo ring key w → LeadTo ring key (set ways place (Some w))
-LeadTo-set ring key ways place w inside lead leads k v is = elim (cases_eq k place) [
+-- another way at a place, or none
+pub LeadTo-set : (ring : TableId) (key : Key) (ways : List (Option Arrivals)) (place : ℕ) (o : Option Arrivals) → place < length ways
+    → LeadTo ring key ways → IfSome o (LeadsTo ring key) → LeadTo ring key (set ways place o)
+LeadTo-set ring key ways place o inside lead leads k v is = elim (cases_eq k place) [
   | inl same ↦
-      let at : get_or (set ways place (Some w)) k None ≡ Some w = ap (λ i. get_or (set ways place (Some w)) i None) same ∙ get_or-set_same ways place (Some w) None inside in
-      subst (LeadsTo ring key) (same_Some w v (sym at ∙ is)) leads
-  | inr other ↦ lead k v (sym (get_or-set_other ways place k (Some w) None other) ∙ is)
-]
-
--- a way less
-pub LeadTo-taken : (ring : TableId) (key : Key) (ways : List (Option Arrivals)) (place : ℕ) → place < length ways
-    → LeadTo ring key ways → LeadTo ring key (set ways place None)
-LeadTo-taken ring key ways place inside lead k v is = elim (cases_eq k place) [
-  | inl same ↦
-      let at : get_or (set ways place None) k None ≡ None = ap (λ i. get_or (set ways place None) i None) same ∙ get_or-set_same ways place None None inside in
-      absurd (none-some v (sym at ∙ is))
-  | inr other ↦ lead k v (sym (get_or-set_other ways place k None None other) ∙ is)
+      let at : get_or (set ways place o) k None ≡ o = ap (λ i. get_or (set ways place o) i None) same ∙ get_or-set_same ways place o None inside in
+      subst (λ (p : Option Arrivals). IfSome p (LeadsTo ring key)) (sym at ∙ is) leads
+  | inr other ↦ lead k v (sym (get_or-set_other ways place k o None other) ∙ is)
 ]
 
 -- what is read at a place of some ways, where it is a way, leads to their ring
@@ -129,11 +119,6 @@ IsOfRing-place ring key place s is = record { of_ring = is.of_ring; of_key = is.
 pub IsSilentSeat-later : (l m : Lobby) (p : ℕ) (s : MixSeat) → ring_of_lobby m ≡ ring_of_lobby l → key_of_lobby m ≡ key_of_lobby l
     → IsSilentSeat l p s → IsSilentSeat m p s
 IsSilentSeat-later l m p s ring key silent = (
-  record {
-    of_ring = silent.0.of_ring ∙ sym ring;
-    of_key = silent.0.of_key ∙ sym key;
-    member = silent.0.member;
-    places = silent.0.places;
-  },
+  assumption (silent.0.of_ring ∙ sym ring, silent.0.of_key ∙ sym key),
   silent.1,
 )

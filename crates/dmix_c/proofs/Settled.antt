@@ -1,6 +1,6 @@
 -- A client that can be written to has no part of a frame, and has written all that it placed.
-use Rattle.dmix_c.specs.Prelude.{ap, arith, inl, inr, List, refl, ℤ, ◌≡◌, ◌≤◌, Bool, false, None, true, ◌⊎◌, State, Disconnected, Draining, Open, Paused}
-use Rattle.dmix_c.specs.Prelude.{Prepared, Running, Setup, Suspended, Xrun, Playback, is_moving, refusal_of, PlaybackStream, IsSoundClient}
+use Rattle.dmix_c.specs.Prelude.{ap, arith, inl, inr, List, refl, ℤ, ◌≡◌, ◌≤◌, Bool, false, None, ◌⊎◌, State, Prepared, Running, Playback, is_moving}
+use Rattle.dmix_c.specs.Prelude.{refusal_of, PlaybackStream, IsSoundClient}
 use Rattle.pcm_states.specs.declared.calls.Call.TheVariants.{Transfer}
 
 -- the states in which frames are written
@@ -8,16 +8,9 @@ abbrev IsWritable : Bool → State → Type 0
 IsWritable stopped s = (stopped ≡ false) × ((s ≡ Prepared) ⊎ (s ≡ Running))
 
 writable : (stopped : Bool) (s : State) → refusal_of Playback (record { state = s; stopped = stopped }) Transfer ≡ None → IsWritable stopped s
-writable true s is = absurd (cc)
 writable false Prepared is = (refl, inl refl)
 writable false Running is = (refl, inr refl)
-writable false Open is = absurd (cc)
-writable false Setup is = absurd (cc)
-writable false Xrun is = absurd (cc)
-writable false Draining is = absurd (cc)
-writable false Paused is = absurd (cc)
-writable false Suspended is = absurd (cc)
-writable false Disconnected is = absurd (cc)
+writable stopped s is = absurd (cc)
 
 settled-by : (c : PlaybackStream) (ring : List ℤ) → IsSoundClient c ring → c.status.stopped ≡ false → (c.status.state ≡ Prepared) ⊎ (c.status.state ≡ Running)
     → (c.stretch.part ≡ 0) × (c.stretch.committed ≤ c.stretch.written)

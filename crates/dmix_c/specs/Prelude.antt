@@ -11,7 +11,7 @@ pub use Rattle.std.specs.Option.{is_some}
 pub use Rattle.std.specs.Prelude.{All, Bool, Err, false, IfErr, IfSome, if◌then◌else◌, IsSome, IsTrue, nat_lt, None, not, Ok, OnErr, OnOk, Option, pos, Result}
 pub use Rattle.std.specs.Prelude.{Some, true, unwrap_or, ⊤, ◌&&◌, ◌-◌, ◌||◌, ◌↔◌, ◌⊎◌}
 pub use Rattle.std.specs.declared.alloc.Global.{Global}
-pub use Rattle.core.proofs.alloc.Calls.{Al, Goes-blank, handle_tells}
+pub use Rattle.core.proofs.alloc.Calls.{Goes-blank, handle_tells}
 pub use Rattle.core.proofs.atomic.Steps.{fm}
 pub use Rattle.core.proofs.cell.Inside.{Good}
 pub use Rattle.rtrb.specs.Ring.{received, sent}
@@ -19,15 +19,17 @@ pub use Rattle.rtrb.specs.declared.consumer.Consumer.{Consumer}
 pub use Rattle.std_alloc.proofs.BoxSteps.Steps.{box_in, box_out}
 pub use Rattle.std_alloc.proofs.ResultValues.{and_tt}
 pub use Rattle.std_alloc.specs.Box.Ownership.{box_owns}
+pub use Rattle.std_heap.proofs.GlobalAllocator.TheImpl.Met.{passed}
 pub use base.Fml.{flft, fsep, ftrue}
+pub use base.Fraction.{full_share}
 pub use base.Logic.{emp, ent, fst∗, id⊢, never, SProp}
+pub use contract.BorrowLft.{⊑_refl, ⊑_static, ◌⊑◌}
 pub use contract.Monad.{fact, fact_i}
 pub use contract.Running.{tables}
 pub use denote.Builtin.{RawPtr}
-pub use denote.Exit.{no}
 pub use denote.Memory.{lone}
-pub use denote.Param.{bounded, layout, param}
-pub use denote.Param.Laws.{Laws, param_laws}
+pub use denote.Param.{arg, layout}
+pub use denote.Param.NoDrop.{glues}
 pub use denote.RattleType.{owns, RattleType, Valss}
 pub use denote.RawPtr.{block_ptr, in_a_block, null_ptr, Ptr, ptr_val}
 pub use denote.Signature.{plain, types_at}
@@ -35,16 +37,15 @@ pub use denote.Steps.{heard, nothing, only}
 pub use denote.Struct.Owning.{fields, shape, to}
 pub use denote.Struct.Struct.{exits_of, within}
 pub use denote.Triple.Call.{calls_at, calls_at_last}
+pub use denote.Triple.Clauses.{at_exit, Ended, Lasts, lasts}
 pub use denote.Triple.Entry.{alive}
 pub use denote.Triple.Spec.{triple_of}
-pub use denote.Triple.Walked.{stay_dropped, Stays, walk_of}
-pub use mir.MapTy.{inst_fn}
-pub use mir.Syntax.{a_type, dcons, dnil, impl, tnil}
+pub use denote.Triple.Walked.{Fit, stay_dropped, Stays, walk_of}
+pub use mir.Raw.{raw}
 pub use mir.Val.{has_ty, of_list, Val, vcons, vint, vnil, vptr, vstruct, WT}
 pub use prog.Wp.{WpFn}
-pub use seplogic.Ra.Ura.{Ura}
 pub use types.ByLocal.{alloc_all, env, free_all, get, get_in, lands_as, lands_last, look_at, pass_all, sets}
-pub use types.Kit.{at_ret, await, by, drop, feq_i, feq_l, fjoin, fpack, fpick, fsplit, Goal, Item, join, keep, later, move, pick, qed, raw, rewrite, Seq, some}
+pub use types.Kit.{at_ret, await, by, drop, feq_i, feq_l, fjoin, fpack, fpick, fsplit, Goal, Item, join, keep, later, move, pick, qed, rewrite, Seq, some}
 pub use types.Kit.{split, split3, Step, step, suffices, use0, use1, !, ‵, ◌$◌, ◌∵◌, ◌⊛◌}
 pub use types.Logic.{Logic, sem}
 pub use types.Part.{agg, sub, whole}
@@ -55,7 +56,7 @@ pub use Rattle.snd_base.specs.declared.geometry.Geometry.{Geometry}
 pub use Rattle.snd_base.specs.declared.places.Cursor.{Cursor}
 pub use Rattle.pcm_states.specs.declared.calls.Call.{Call}
 pub use Rattle.pcm_states.specs.declared.states.State.{State}
-pub use Rattle.pcm_states.specs.declared.states.State.TheVariants.{Disconnected, Draining, Open, Paused, Prepared, Running, Setup, Suspended, Xrun}
+pub use Rattle.pcm_states.specs.declared.states.State.TheVariants.{Prepared, Running}
 pub use Rattle.pcm_states.specs.States.{state_number}
 pub use Rattle.hw_space.specs.declared.config.Config.{Config}
 pub use Rattle.sw_limits.specs.declared.params.SwParams.{SwParams}
@@ -83,6 +84,7 @@ pub use Rattle.course.specs.CourseLaws.{Takes-map}
 pub use Rattle.course.specs.Gives.{Gives, Gives-any, Gives-taken}
 pub use Rattle.course.specs.Stops.{CountsStop, pass_in}
 pub use Rattle.dmix_client.specs.declared.stream.PlaybackStream.{PlaybackStream}
+pub use Rattle.dmix_client.specs.CallRelations.{Calls, WritesFrames}
 pub use Rattle.dmix_client.specs.Calls.{after_drop, after_hw_free, after_prepare, Answered, avail_answer, base_of, committed_by, delay_answer, going_on}
 pub use Rattle.dmix_client.specs.Calls.{going_on_by, is_paused, new_client, with_new_base, with_number, with_outcome, with_params}
 pub use Rattle.dmix_client.specs.EachCall.{CallLeaves, checks-done, CountLeaves, drain-done, number-counted, pause-done, resume-done, rewind-counted}

@@ -1,15 +1,14 @@
 //! The calls of a client at its seat, by the state table first, then by their arguments.
-ghost use Rattle.std.specs.Prelude.{◌≡◌, None};
+ghost use Rattle.std.specs.Prelude.{◌≡◌};
 ghost use Rattle.pcm_stream.specs.Status.{refusal_of, refused_by};
 ghost use Rattle.pcm_stream.specs.declared.direction.Direction.{Direction};
 ghost use Rattle.sum_table.specs.Seats.{seat_view};
 ghost use Rattle.dmix_client.specs.Port.{CanUse};
-ghost use Rattle.dmix_client.specs.Writes.{IsOffer};
 ghost use Rattle.sum_table.specs.declared.seats.mix.MixSeat.{MixSeat};
 ghost use Rattle.dmix_c.specs.Backed.{IsBackedSeat};
-ghost use Rattle.dmix_c.specs.ClientCalls.{HasMade, HasSetUp, Writes};
+ghost use Rattle.dmix_c.specs.ClientCalls.{HasMade, HasSetUp};
 
-use crate::answers::{done_of, frames_of};
+use crate::answers::done_of;
 use crate::params::{StreamHwParams, StreamSwParams};
 use bindings::Bindings;
 use dmix_client::Client;
@@ -82,23 +81,6 @@ pub(crate) fn make_call(
         ClientCall::Rewindable => client.rewindable(seat, &mut NeverStops),
         ClientCall::Rewind(frames) => client.rewind(seat, &mut NeverStops, frames),
     }
-}
-
-/// Writes interleaved samples, which are whole frames and not too many.
-pub(crate) fn write_frames(
-    client: &mut Client,
-    seat: &mut MixSeat<'static>,
-    samples: &[i16],
-) -> Result<u64, PcmError>
-    requires offer { IsOffer client.old.stream samples.now }
-    requires usable { CanUse client.old.stream (seat_view seat.old) }
-    requires admitted { refusal_of Direction.Playback client.old.stream.status Call.Transfer
-        ≡ None }
-    ensures writes { Writes seat.old client.old seat.new client.new samples.now result }
-    ensures backed { IsBackedSeat seat.old client.old → IsBackedSeat seat.new client.new }
-{
-    client.counts_are_sound();
-    frames_of(client.writei(seat, &mut NeverStops, samples))
 }
 
 /// Sets a client up with hardware parameters, each of its channels bound to the channel of the card that a list has for it.

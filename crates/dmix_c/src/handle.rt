@@ -5,7 +5,6 @@ ghost use Rattle.dmix_c.specs.Owned.{may_own};
 ghost use Rattle.dmix_c.specs.declared.opened.Opened.{Opened};
 ghost use Rattle.dmix_c.specs.contracts.opened.Opened.{the_row};
 
-use crate::loose::LooseBox;
 use crate::opened::Opened;
 use std::alloc::Global;
 use std::marker::Model;
@@ -39,26 +38,23 @@ impl Held {
     }
 
     /// The address of a box without its type.
-    fn seal(of: LooseBox<Opened, Global>) -> Held
-        ensures { result.value ≡ Some of.value }
+    fn seal(opened: Box<Opened>) -> Held
+        ensures { result.value ≡ Some opened.value }
     {
-        let LooseBox { at, alloc } = of;
+        let (at, alloc) = Box::into_raw_with_allocator(opened);
         Held {
             at: at as *mut u8,
             alloc,
         }
     }
 
-    /// The address of a box with its type.
-    fn unseal(self) -> LooseBox<Opened, Global>
+    /// The box at the address.
+    fn unseal(self) -> Box<Opened>
         requires { IsSome self.value }
         ensures { self.value ≡ Some result.value }
     {
         let Held { at, alloc } = self;
-        LooseBox {
-            at: at as *mut Opened,
-            alloc,
-        }
+        unsafe { Box::from_raw(alloc, at as *mut Opened) }
     }
 }
 
@@ -103,7 +99,7 @@ impl Handle {
         if kind == 0 {
             return None;
         }
-        Some(held.unseal().into_box())
+        Some(held.unseal())
     }
 
     /// Makes a closed handle stand for something.
@@ -114,7 +110,7 @@ impl Handle {
         let channels = opened.channels();
         let handle = Handle {
             kind: 1,
-            held: Held::seal(LooseBox::of(opened)),
+            held: Held::seal(opened),
             channels,
         };
         // C may pass it to another thread.

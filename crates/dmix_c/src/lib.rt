@@ -12,7 +12,6 @@ mod calls;
 mod client_calls;
 mod duplex_card;
 mod handle;
-mod loose;
 mod open_ring;
 mod opened;
 mod params;

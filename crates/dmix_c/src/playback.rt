@@ -6,12 +6,12 @@ ghost use Rattle.dmix_client.specs.Port.{CanUse};
 ghost use Rattle.dmix_c.specs.Backed.{IsBackedSeat};
 ghost use Rattle.dmix_c.specs.SamePlace.{AreOfPlace};
 
-use crate::answers::{done_of, number_of};
-use crate::client_calls::{ClientCall, ClientRequest, admit, make_call, set_up, write_frames};
+use crate::answers::{done_of, frames_of, number_of};
+use crate::client_calls::{ClientCall, ClientRequest, admit, make_call, set_up};
 use crate::params::{StreamHwParams, StreamStatus, StreamSwParams};
 use crate::way::WayBack;
 use dmix_client::Client;
-use mix_core::MixPort;
+use mix_core::{MixPort, NeverStops};
 use pcm_states::{Call, State};
 use snd_base::{PcmError, Why};
 use std::alloc::Global;
@@ -106,7 +106,8 @@ impl Playback {
         if !self.client.can_offer(samples) {
             return Err(PcmError::Invalid(Why::Config));
         }
-        write_frames(&mut self.client, &mut self.seat, samples)
+        self.client.counts_are_sound();
+        frames_of(self.client.writei(&mut self.seat, &mut NeverStops, samples))
     }
 
     /// Sets the hardware parameters, with the card's channel for each of the client's.

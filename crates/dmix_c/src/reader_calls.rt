@@ -3,10 +3,10 @@ ghost use Rattle.std.specs.Prelude.{◌≡◌};
 ghost use Rattle.pcm_stream.specs.Status.{refusal_of, refused_by};
 ghost use Rattle.pcm_stream.specs.declared.direction.Direction.{Direction};
 ghost use Rattle.snoop_table.specs.Readers.{seat_view};
-ghost use Rattle.dsnoop_client.specs.View.{CanRead, CanUse};
-ghost use Rattle.dmix_c.specs.ReaderCalls.{ReaderHasMade, ReaderHasSetUp, ReadsAt};
+ghost use Rattle.dsnoop_client.specs.View.{CanUse};
+ghost use Rattle.dmix_c.specs.ReaderCalls.{ReaderHasMade, ReaderHasSetUp};
 
-use crate::answers::{done_of, frames_of};
+use crate::answers::done_of;
 use crate::params::{StreamHwParams, StreamSwParams};
 use bindings::Bindings;
 use dsnoop_client::Reader;
@@ -63,19 +63,6 @@ pub(crate) fn make_call(
         ReaderCall::Drop => done_of(reader.drop_pending()),
         ReaderCall::AvailUpdate => reader.avail_update(seat, &mut NeverStops),
     }
-}
-
-/// Reads interleaved frames, into room for whole frames and not for too many.
-pub(crate) fn read_frames(
-    reader: &mut Reader,
-    seat: &mut ReaderSeat<'static>,
-    out: &mut [i16],
-) -> Result<u64, PcmError>
-    requires room { CanRead reader.old out.old }
-    requires usable { CanUse reader.old (seat_view seat.old) }
-    ensures { ReadsAt seat.old reader.old seat.new reader.new out.old out.new result }
-{
-    frames_of(reader.readi(seat, &mut NeverStops, out))
 }
 
 /// Sets a reader up with hardware parameters, each of its channels bound to the channel of the card that a list has for it.

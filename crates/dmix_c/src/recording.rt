@@ -3,10 +3,11 @@ ghost use Rattle.std.specs.Prelude.{◌≡◌, false};
 ghost use Rattle.snoop_table.specs.Readers.{geometry_of, seat_view};
 ghost use Rattle.dsnoop_client.specs.View.{CanUse};
 
-use crate::answers::{done_of, number_of};
+use crate::answers::{done_of, frames_of, number_of};
 use crate::params::{StreamHwParams, StreamStatus, StreamSwParams};
-use crate::reader_calls::{ReaderCall, ReaderRequest, admit, make_call, read_frames, set_up};
+use crate::reader_calls::{ReaderCall, ReaderRequest, admit, make_call, set_up};
 use dsnoop_client::Reader;
+use mix_core::NeverStops;
 use pcm_states::{Call, State};
 use snd_base::{PcmError, Why};
 use snoop_core::SnoopPort;
@@ -78,7 +79,7 @@ impl Recording {
         if !self.reader.can_read(out) {
             return Err(PcmError::Invalid(Why::Config));
         }
-        read_frames(&mut self.reader, &mut self.seat, out)
+        frames_of(self.reader.readi(&mut self.seat, &mut NeverStops, out))
     }
 
     /// Sets the hardware parameters, with the card's channel for each of the reader's.

@@ -21,17 +21,7 @@ pub extern "C" fn dmix_c_card_play(alloc: Global, card: &mut Handle, out: &mut [
     ensures { OnCard (out.new ≡ out.old) (HasPlayed out.old out.new) (stands_for card.old)
         (stands_for card.new) result }
 {
-    by_handle!(alloc, card, opened => play_card(&mut opened, out))
-}
-
-fn play_card(opened: &mut Opened, out: &mut [i16]) -> i64
-    ensures { OnCard (out.new ≡ out.old) (HasPlayed out.old out.new) (Some opened.old)
-        (Some opened.new) result }
-{
-    match opened {
-        Opened::Card(card) => number_of(card.play(out)),
-        _ => BAD_HANDLE,
-    }
+    by_handle!(alloc, card, Card(playing) => number_of(playing.play(out)))
 }
 
 /// Captures and plays as many frames as both buffers have, interleaved: each captured frame is stored before the mixed one is
@@ -50,17 +40,7 @@ pub extern "C" fn dmix_c_card_run(
     ensures { OnDuplex (out.new ≡ out.old) (HasRunCard captured.now out.old out.new)
         (stands_for card.old) (stands_for card.new) result }
 {
-    by_handle!(alloc, card, opened => run_card(&mut opened, captured, out))
-}
-
-fn run_card(opened: &mut Opened, captured: &[i16], out: &mut [i16]) -> i64
-    ensures { OnDuplex (out.new ≡ out.old) (HasRunCard captured.now out.old out.new)
-        (Some opened.old) (Some opened.new) result }
-{
-    match opened {
-        Opened::Duplex(card) => number_of(card.run(captured, out)),
-        _ => BAD_HANDLE,
-    }
+    by_handle!(alloc, card, Duplex(duplex) => number_of(duplex.run(captured, out)))
 }
 
 /// Unplugs the card: from now on each client or reader that loads the position is DISCONNECTED, and answers -ENODEV.
@@ -71,7 +51,12 @@ pub extern "C" fn dmix_c_card_unplug(alloc: Global, card: &mut Handle) -> i64
     ensures { OnEitherCard ⊤ IsUnplugged IsDuplexUnplugged (stands_for card.old)
         (stands_for card.new) result }
 {
-    by_handle!(alloc, card, opened => unplug_card(&mut opened))
+    let Some(mut opened) = card.take(alloc) else {
+        return BAD_HANDLE;
+    };
+    let answer = unplug_card(&mut opened);
+    card.put(opened);
+    answer
 }
 
 fn unplug_card(opened: &mut Opened) -> i64

@@ -4,7 +4,7 @@
 //!
 //! A call that loads the position answers -ENODEV where the card is gone, and the state is DISCONNECTED then. Where it answers
 //! -EPIPE after a load, the state is XRUN.
-ghost use Rattle.std.specs.Prelude.{◌≡◌, Some, ⊤};
+ghost use Rattle.std.specs.Prelude.{◌≡◌, ⊤};
 ghost use Rattle.dmix_c.specs.Clients.{HasCalled, HasServed, HasWritten};
 ghost use Rattle.dmix_c.specs.Handles.{OnClient};
 ghost use Rattle.dmix_c.specs.Stands.{stands_for};
@@ -24,16 +24,7 @@ fn ask_client(alloc: Global, client: &mut Handle, request: ClientRequest<'_>) ->
     ensures { OnClient ⊤ (HasServed request.entry) (stands_for client.old) (stands_for client.new)
         result }
 {
-    by_handle!(alloc, client, opened => ask_opened(alloc, &mut opened, request))
-}
-
-fn ask_opened(alloc: Global, opened: &mut Opened, request: ClientRequest<'_>) -> i64
-    ensures { OnClient ⊤ (HasServed request.entry) (Some opened.old) (Some opened.new) result }
-{
-    match opened {
-        Opened::Client(playback) => playback.answer(alloc, request),
-        _ => BAD_HANDLE,
-    }
+    by_handle!(alloc, client, Client(playback) => playback.answer(alloc, request))
 }
 
 /// Gives the configuration up (`snd_pcm_hw_free`): OPEN, from SETUP or PREPARED. 0.

@@ -4,7 +4,7 @@
 //!
 //! A call that loads the position answers -ENODEV where the card is gone, and the state is DISCONNECTED then. Where it answers
 //! -EPIPE after a load, the state is XRUN.
-ghost use Rattle.std.specs.Prelude.{◌≡◌, Some, ⊤};
+ghost use Rattle.std.specs.Prelude.{◌≡◌, ⊤};
 ghost use Rattle.dmix_c.specs.Handles.{OnReader};
 ghost use Rattle.dmix_c.specs.Readers.{ReaderHasCalled, ReaderHasRead, ReaderHasServed};
 ghost use Rattle.dmix_c.specs.Stands.{stands_for};
@@ -23,17 +23,7 @@ fn ask_reader(alloc: Global, reader: &mut Handle, request: ReaderRequest<'_>) ->
     ensures { OnReader ⊤ (ReaderHasServed request.entry) (stands_for reader.old)
         (stands_for reader.new) result }
 {
-    by_handle!(alloc, reader, opened => ask_opened(alloc, &mut opened, request))
-}
-
-fn ask_opened(alloc: Global, opened: &mut Opened, request: ReaderRequest<'_>) -> i64
-    ensures { OnReader ⊤ (ReaderHasServed request.entry) (Some opened.old) (Some opened.new)
-        result }
-{
-    match opened {
-        Opened::Reader(recording) => recording.answer(alloc, request),
-        _ => BAD_HANDLE,
-    }
+    by_handle!(alloc, reader, Reader(recording) => recording.answer(alloc, request))
 }
 
 /// Gives the configuration up (`snd_pcm_hw_free`): OPEN, from SETUP or PREPARED. 0.
@@ -97,15 +87,5 @@ pub extern "C" fn dmix_c_reader_readi(alloc: Global, reader: &mut Handle, out: &
     ensures { OnReader (out.new ≡ out.old) (ReaderHasRead out.old out.new) (stands_for reader.old)
         (stands_for reader.new) result }
 {
-    by_handle!(alloc, reader, opened => read_samples(&mut opened, out))
-}
-
-fn read_samples(opened: &mut Opened, out: &mut [i16]) -> i64
-    ensures { OnReader (out.new ≡ out.old) (ReaderHasRead out.old out.new) (Some opened.old)
-        (Some opened.new) result }
-{
-    match opened {
-        Opened::Reader(recording) => number_of(recording.readi(out)),
-        _ => BAD_HANDLE,
-    }
+    by_handle!(alloc, reader, Reader(recording) => number_of(recording.readi(out)))
 }

@@ -13,41 +13,28 @@ gate = record {}
 pub returns-in-HwFree : goal.returns-in-HwFree
 returns-in-HwFree c =
     let made = c.hw_free.ensures in
-    let s = c.args.seat.now in
-    let v = c.args.reader.now in
-    let d = c.hw_free.new.self in
-    reader-made-plain _ asked.HwFree call.HwFree s gate v d (after_hw_free v) c.hw_free.result c.done_of.result c.in-HwFree.is
-    refl refl refl refl c.requires made.refused made.freed c.done_of.ensures
+    reader-made-plain asked.HwFree call.HwFree gate (after_hw_free c.args.reader.now) c.hw_free.result c.in-HwFree.is refl refl refl refl c.requires
+    made.refused made.freed c.done_of.ensures
 
 pub returns-in-Prepare : goal.returns-in-Prepare
 returns-in-Prepare c =
     let made = c.prepare.ensures in
-    let s = c.args.seat.now in
-    let v = c.args.reader.now in
-    let d = c.prepare.new.self in
-    reader-made-plain _ asked.Prepare call.Prepare s gate v d (in_state v state.Prepared) c.prepare.result c.done_of-in-Prepare.result c.in-Prepare.is
-    refl refl refl refl c.requires made.refused made.prepared c.done_of-in-Prepare.ensures
+    reader-made-plain asked.Prepare call.Prepare gate (in_state c.args.reader.now state.Prepared) c.prepare.result c.in-Prepare.is refl refl refl refl c.requires
+    made.refused made.prepared c.done_of-in-Prepare.ensures
 
 pub returns-in-Start : goal.returns-in-Start
 returns-in-Start c =
     let made = c.start.ensures in
-    let v = c.args.reader.now in
-    let d = c.start.new.self in
-    reader-made-by _ asked.Start c.args.seat.now c.start.new.port _ _ v d c.done_of-in-Start.result c.in-Start.is
-    (reader_done-taken _ _ _ _ c.start.result c.done_of-in-Start.result made.takes c.done_of-in-Start.ensures) (reader-unstopped _ _ _ _ _ made.keeps) made.keeps.port
+    reader-made-by asked.Start _ _ c.in-Start.is (reader_done-taken _ _ _ _ _ _ made.takes c.done_of-in-Start.ensures) (reader-unstopped _ _ _ _ _ made.keeps)
+    made.keeps.port
 
 pub returns-in-Drop : goal.returns-in-Drop
 returns-in-Drop c =
     let made = c.drop_pending.ensures in
-    let s = c.args.seat.now in
-    let v = c.args.reader.now in
-    let d = c.drop_pending.new.self in
-    reader-made-plain _ asked.Drop call.Drop s gate v d (in_state v state.Setup) c.drop_pending.result c.done_of-in-Drop.result c.in-Drop.is
-    refl refl refl refl c.requires made.refused made.dropped c.done_of-in-Drop.ensures
+    reader-made-plain asked.Drop call.Drop gate (in_state c.args.reader.now state.Setup) c.drop_pending.result c.in-Drop.is refl refl refl refl c.requires
+    made.refused made.dropped c.done_of-in-Drop.ensures
 
 pub returns-in-AvailUpdate : goal.returns-in-AvailUpdate
 returns-in-AvailUpdate c =
     let made = c.avail_update.ensures in
-    let v = c.args.reader.now in
-    let d = c.avail_update.new.self in
-    reader-made-by _ asked.AvailUpdate c.args.seat.now c.avail_update.new.port _ _ v d c.avail_update.result c.in-AvailUpdate.is made.takes (reader-unstopped _ _ _ _ _ made.keeps) made.keeps.port
+    reader-made-by asked.AvailUpdate _ _ c.in-AvailUpdate.is made.takes (reader-unstopped _ _ _ _ _ made.keeps) made.keeps.port

@@ -25,17 +25,7 @@ pub extern "C" fn dmix_c_client_open(alloc: Global, client: &mut Handle, ring: &
     if client.is_open() {
         return HANDLE_IN_USE;
     }
-    by_handle!(alloc, ring, opened => open_by(alloc, client, &mut opened))
-}
-
-fn open_by(alloc: Global, client: &mut Handle, opened: &mut Opened) -> i64
-    requires { stands_for client.old ≡ None }
-    ensures { OpensBy OpensAt (Some opened.old) (stands_for client.new) (Some opened.new) result }
-{
-    match opened {
-        Opened::Ring(ring) => open_at(alloc, client, ring),
-        _ => BAD_HANDLE,
-    }
+    by_handle!(alloc, ring, Ring(places) => open_at(alloc, client, places))
 }
 
 fn open_at(alloc: Global, client: &mut Handle, ring: &mut OpenRing) -> i64

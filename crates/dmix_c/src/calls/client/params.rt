@@ -1,5 +1,5 @@
 //! A client is set up, and tells what it is.
-ghost use Rattle.std.specs.Prelude.{◌≡◌, Some, ⊤};
+ghost use Rattle.std.specs.Prelude.{◌≡◌, ⊤};
 ghost use Rattle.dmix_c.specs.Clients.{HasHwParams, HasState, HasStatus, HasSwParams};
 ghost use Rattle.dmix_c.specs.Handles.{OnClient};
 ghost use Rattle.dmix_c.specs.Params.{first_channels};
@@ -89,19 +89,9 @@ pub extern "C" fn dmix_c_status(
     ensures { OnClient (status.new ≡ status.old) (HasStatus status.new) (stands_for client.old)
         (stands_for client.new) result }
 {
-    by_handle!(alloc, client, opened => tell_status(&mut opened, status))
-}
-
-fn tell_status(opened: &mut Opened, status: &mut StreamStatus) -> i64
-    ensures { OnClient (status.new ≡ status.old) (HasStatus status.new) (Some opened.old)
-        (Some opened.new) result }
-{
-    match opened {
-        Opened::Client(playback) => {
-            let (told, _) = playback.status();
-            *status = told;
-            0
-        }
-        _ => BAD_HANDLE,
-    }
+    by_handle!(alloc, client, Client(playback) => {
+        let (told, _) = playback.status();
+        *status = told;
+        0
+    })
 }

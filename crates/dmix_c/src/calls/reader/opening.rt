@@ -24,18 +24,7 @@ pub extern "C" fn dmix_c_reader_open(alloc: Global, reader: &mut Handle, ring: &
     if reader.is_open() {
         return HANDLE_IN_USE;
     }
-    by_handle!(alloc, ring, opened => open_by(alloc, reader, &mut opened))
-}
-
-fn open_by(alloc: Global, reader: &mut Handle, opened: &mut Opened) -> i64
-    requires { stands_for reader.old ≡ None }
-    ensures { OpensBy OpensReaderAt (Some opened.old) (stands_for reader.new) (Some opened.new)
-        result }
-{
-    match opened {
-        Opened::Ring(ring) => open_at(alloc, reader, ring),
-        _ => BAD_HANDLE,
-    }
+    by_handle!(alloc, ring, Ring(places) => open_at(alloc, reader, places))
 }
 
 fn open_at(alloc: Global, reader: &mut Handle, ring: &mut OpenRing) -> i64

@@ -1,5 +1,5 @@
 //! A reader is set up, and tells what it is.
-ghost use Rattle.std.specs.Prelude.{◌≡◌, Some, ⊤};
+ghost use Rattle.std.specs.Prelude.{◌≡◌, ⊤};
 ghost use Rattle.dmix_c.specs.Handles.{OnReader};
 ghost use Rattle.dmix_c.specs.Params.{first_channels};
 ghost use Rattle.dmix_c.specs.Readers.{ReaderHasHwParams, ReaderHasState, ReaderHasStatus, ReaderHasSwParams};
@@ -89,19 +89,9 @@ pub extern "C" fn dmix_c_reader_status(
     ensures { OnReader (status.new ≡ status.old) (ReaderHasStatus status.new)
         (stands_for reader.old) (stands_for reader.new) result }
 {
-    by_handle!(alloc, reader, opened => tell_status(&mut opened, status))
-}
-
-fn tell_status(opened: &mut Opened, status: &mut StreamStatus) -> i64
-    ensures { OnReader (status.new ≡ status.old) (ReaderHasStatus status.new) (Some opened.old)
-        (Some opened.new) result }
-{
-    match opened {
-        Opened::Reader(recording) => {
-            let (told, _) = recording.status();
-            *status = told;
-            0
-        }
-        _ => BAD_HANDLE,
-    }
+    by_handle!(alloc, reader, Reader(recording) => {
+        let (told, _) = recording.status();
+        *status = told;
+        0
+    })
 }

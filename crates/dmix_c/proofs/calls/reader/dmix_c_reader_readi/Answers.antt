@@ -1,4 +1,4 @@
-use Rattle.dmix_c.specs.Prelude.{to_z-of_z, w64, ◌≡◌, OnReader, ReaderHasRead}
+use Rattle.dmix_c.specs.Prelude.{refl, to_z-of_z, w64, ◌≡◌, Reader, OnReader, ReaderHasRead}
 use Rattle.dmix_c.proofs.Handed.{handed}
 use Rattle.dmix_c.proofs.calls.reader.dmix_c_reader_readi.Goals as goal
 
@@ -6,6 +6,7 @@ use Rattle.dmix_c.proofs.calls.reader.dmix_c_reader_readi.Goals as goal
 pub returns : goal.returns
 returns c =
     let old = c.args.out.now in
-    let new = c.read_samples-answer.new.out in
-    handed (OnReader (new ≡ old) (ReaderHasRead old new)) _ _ _ _ _ c.read_samples-answer.result _ c.in-Some.ensures.value c.deref_mut.ensures.value c.put.ensures
-    (to_z-of_z {w = w64} {z = c.read_samples-answer.result} (record { sfits = c.read_samples-answer.type_inv })) c.read_samples-answer.ensures
+    let new = c.readi.new.out in
+    handed (OnReader (new ≡ old) (ReaderHasRead old new)) (Reader c.in-Reader.recording) c.in-Some.ensures.value c.deref_mut.ensures.value c.in-Reader.is c.put-2.ensures
+    (to_z-of_z {w = w64} {z = c.number_of-answer.result} (record { sfits = c.number_of-answer.type_inv }))
+    (c.readi.new.self, refl, record { made = c.readi.result; answered = c.number_of-answer.ensures; was_read = c.readi.ensures })

@@ -1,10 +1,9 @@
 -- What a handle owns may go to another thread: what is in the box is `Send`, and any thread may free a block of the C heap.
-use Rattle.dmix_c.specs.Prelude.{None, Option, Some, Global, lone, RattleType, Ptr, fields, shape, to, exits_of, may_own}
+use Rattle.dmix_c.specs.Prelude.{None, Option, Some, Global, lone, RattleType, Ptr, fields, shape, to, exits_of, raw, may_own}
 use Rattle.std.proofs.Crossing.{frees}
 use Rattle.std_alloc.proofs.SendSync.{lies, quiet}
 use base.Shift.{Keyless}
 use denote.Param.Send.{AllSend, IsSend, owning_send, sendable, struct_send}
-use mir.Raw.{raw}
 use Rattle.dmix_c.specs.contracts.handle.Held.{the_row, the_type}
 use Rattle.dmix_c.proofs.opened.Opened.TheSendSync.{the_send as opened_send}
 use Rattle.std.proofs.alloc.Global.TheSendSync as heap

@@ -1,29 +1,26 @@
+use Rattle.std.proofs.Common.{rules}
 use Rattle.std.proofs.Common.{refl}
 use Rattle.dmix_c.proofs.FreePlaces.{IsHandedOut-given, StayFree-given, StayFree-refused, lowest_silent-refused}
 use Rattle.dmix_c.proofs.Ringed.{IsSilentSeat-later}
 use Rattle.dmix_c.proofs.open_ring.OpenRing.attach.Goals as goal
 
-pub returns-in-Ok-clause-keeps : goal.returns-in-Ok-clause-keeps
-returns-in-Ok-clause-keeps c =
+pub returns-in-Ok : goal.returns-in-Ok
+returns-in-Ok c =
     let goes = c.attach.ensures.goes in
     record {
-      ring = goes.ring;
-      key = goes.key;
-      places = goes.places;
-      free = StayFree-given c.args.self.now.lobby c.attach.new.self c.in-Ok.seat (λ none. let came = c.in-Ok.ensures.none_free none in (came.0, came.1)) c.in-Ok.ensures.free;
-      capture = refl;
-      rate = refl;
-      period = refl;
+      keeps = record {
+        ring = goes.ring;
+        key = goes.key;
+        places = goes.places;
+        free = StayFree-given c.args.self.now.lobby c.attach.new.self c.in-Ok.seat (λ none. let came = c.in-Ok.ensures.none_free none in (came.0, came.1)) c.in-Ok.ensures.free;
+        capture = refl;
+        rate = refl;
+        period = refl;
+      };
+      silent = IsSilentSeat-later c.args.self.now.lobby c.attach.new.self _ _ goes.ring goes.key c.in-Ok.ensures.silent;
+      lowest = IsHandedOut-given c.args.self.now.lobby c.attach.new.self c.in-Ok.seat (λ none. let came = c.in-Ok.ensures.none_free none in (came.0, came.1)) c.in-Ok.ensures.free;
+      none = search rules;
     }
-
-pub returns-in-Ok-clause-silent : goal.returns-in-Ok-clause-silent
-returns-in-Ok-clause-silent c =
-    let goes = c.attach.ensures.goes in
-    IsSilentSeat-later c.args.self.now.lobby c.attach.new.self _ _ goes.ring goes.key c.in-Ok.ensures.silent
-
-pub returns-in-Ok-clause-lowest : goal.returns-in-Ok-clause-lowest
-returns-in-Ok-clause-lowest c =
-    IsHandedOut-given c.args.self.now.lobby c.attach.new.self c.in-Ok.seat (λ none. let came = c.in-Ok.ensures.none_free none in (came.0, came.1)) c.in-Ok.ensures.free
 
 pub returns-in-Err-clause-keeps : goal.returns-in-Err-clause-keeps
 returns-in-Err-clause-keeps c =

@@ -9,7 +9,7 @@ invariant_of-self c =
     record {
       lead = r.lead;
       each = length-set r.ways.items c.args.place (Some c.args.arrivals) ∙ r.each;
-      ways_lead = LeadTo-set (ring_of_lobby r.lobby) (key_of_lobby r.lobby) r.ways.items c.args.place c.args.arrivals inside r.ways_lead c.requires.leads;
+      ways_lead = LeadTo-set (ring_of_lobby r.lobby) (key_of_lobby r.lobby) r.ways.items c.args.place (Some c.args.arrivals) inside r.ways_lead c.requires.leads;
     }
 
 pub returns-clause-keeps : goal.returns-clause-keeps

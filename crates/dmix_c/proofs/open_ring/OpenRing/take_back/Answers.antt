@@ -24,15 +24,7 @@ pub returns-clause-keeps : goal.returns-clause-keeps
 returns-clause-keeps c =
     let can = c.can_take_back.ensures.0 c.if-not-can_take_back.false in
     let back = c.detach.ensures.back in
-    record {
-      ring = back.ring;
-      key = back.key;
-      places = back.places;
-      free = StayFree-back c.args.self.now.lobby c.detach.new.self c.args.seat can back;
-      capture = refl;
-      rate = refl;
-      period = refl;
-    }
+    assumption (StayFree-back c.args.self.now.lobby c.detach.new.self c.args.seat can back)
 
 pub returns-clause-back : goal.returns-clause-back
 returns-clause-back c = inl (c.can_take_back.ensures.0 c.if-not-can_take_back.false, c.detach.ensures.back)

@@ -1,6 +1,6 @@
-use Rattle.dmix_c.specs.Prelude.{arith, length, refl, set, subst, sym, ◌<◌, ◌∙◌, length-set, Option, Global, Consumer, MixSeat, key_of_lobby, ring_of_lobby}
-use Rattle.dmix_c.specs.Prelude.{OpenRing, OnePlace, LeadTo}
-use Rattle.dmix_c.proofs.Ringed.{KeepsRing-lobby, LeadTo-taken, LeadsTo-found}
+use Rattle.dmix_c.specs.Prelude.{arith, length, refl, set, subst, sym, ◌<◌, ◌∙◌, length-set, None, Option, Global, Consumer, MixSeat, key_of_lobby}
+use Rattle.dmix_c.specs.Prelude.{ring_of_lobby, OpenRing, OnePlace, LeadTo}
+use Rattle.dmix_c.proofs.Ringed.{KeepsRing-lobby, LeadTo-set, LeadsTo-found}
 use Rattle.dmix_c.proofs.open_ring.OpenRing.take_way.Goals as goal
 
 pub invariant_of-self : goal.invariant_of-self
@@ -11,7 +11,7 @@ invariant_of-self c =
       lead = r.lead;
       each = length-set r.ways.items c.args.place _ ∙ r.each;
       ways_lead = subst (λ (o : Option (Consumer MixSeat Global OnePlace)). LeadTo (ring_of_lobby r.lobby) (key_of_lobby r.lobby) (set r.ways.items c.args.place o)) (sym c.take.ensures.after)
-          (LeadTo-taken (ring_of_lobby r.lobby) (key_of_lobby r.lobby) r.ways.items c.args.place inside r.ways_lead);
+          (LeadTo-set (ring_of_lobby r.lobby) (key_of_lobby r.lobby) r.ways.items c.args.place None inside r.ways_lead tt);
     }
 
 pub returns-clause-keeps : goal.returns-clause-keeps

@@ -1,11 +1,12 @@
-use Rattle.dmix_c.specs.Prelude.{to_z-of_z, w64, ◌≡◌, HasStatus, OnClient}
+use Rattle.dmix_c.specs.Prelude.{refl, ◌≡◌, Client, HasStatus, OnClient}
 use Rattle.dmix_c.proofs.Handed.{handed}
 use Rattle.dmix_c.proofs.calls.client.params.dmix_c_status.Goals as goal
 
 -- what was taken from the handle was called, and put back
 pub returns : goal.returns
 returns c =
-    let old = c.args.status.now in
-    let new = c.tell_status-answer.new.status in
-    handed (OnClient (new ≡ old) (HasStatus new)) _ _ _ _ _ c.tell_status-answer.result _ c.in-Some.ensures.value c.deref_mut.ensures.value c.put.ensures
-    (to_z-of_z {w = w64} {z = c.tell_status-answer.result} (record { sfits = c.tell_status-answer.type_inv })) c.tell_status-answer.ensures
+    let new = c.status.result.0 in
+    let told = c.status.ensures in
+    handed (OnClient (new ≡ c.args.status.now) (HasStatus new)) (Client c.in-Client.playback) c.in-Some.ensures.value c.deref_mut.ensures.value c.in-Client.is c.put-2.ensures
+    refl
+    (c.status.new.self, refl, record { made = c.status.result.1; answered = refl; call = told.made; told = told.told; same = told.same })
