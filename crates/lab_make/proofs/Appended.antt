@@ -1,7 +1,7 @@
 -- Lines are appended to a text one by one.
 use Rattle.lab_make.specs.Prelude.{ap, append_assoc, arith, List, map, suc, sym, zero, zero-add, ℕ, [], ◌++◌, ◌+◌, ◌∙◌, ◌∷◌, ◌≡◌, flat_map-append, append-nil}
 use Rattle.lab_make.specs.Prelude.{map-range_with_len_more, flat_map, range_with_len, line_text, lines_text, all_turn_lines, card_words, client_lines}
-use Rattle.lab_make.specs.Prelude.{made_text, open_lines}
+use Rattle.lab_make.specs.Prelude.{client_words, made_text, open_lines, open_words, turn_lines}
 
 -- one line more
 pub lines_text-push : (f : ℕ → List (List ℕ)) (i : ℕ) (first old new : List ℕ) → old ≡ first ++ lines_text (map f (range_with_len 0 i))
@@ -36,25 +36,24 @@ lines_text-push_all f i first old new before lines =
     ∙ flat_map-append line_text all (f (i + 1)) in
     lines ∙ ap (λ t. t ++ lines_text (f (i + 1))) before ∙ append_assoc first (lines_text all) (lines_text (f (i + 1))) ∙ ap (λ t. first ++ t) (sym more)
 
--- the clients, their openings and the turns are the lines behind the card's
-pub lines_text-parts : (clients turns : ℕ) (first second third whole : List ℕ) → second ≡ first ++ lines_text (client_lines clients)
-    → third ≡ second ++ lines_text (open_lines clients) → whole ≡ third ++ lines_text (all_turn_lines clients turns)
-    → whole ≡ first ++ lines_text (client_lines clients ++ (open_lines clients ++ all_turn_lines clients turns))
-lines_text-parts clients turns first second third whole declared opened played =
+-- the card's line, those of the clients, of their openings and of the turns are the whole text
+pub made_text-parts : (clients turns i j k : ℕ) → i ≡ clients → j ≡ clients → k ≡ turns → (first second third whole : List ℕ) → first ≡ line_text card_words
+    → second ≡ first ++ lines_text (map client_words (range_with_len 0 i)) → third ≡ second ++ lines_text (map open_words (range_with_len 0 j))
+    → whole ≡ third ++ lines_text (flat_map (turn_lines clients) (range_with_len 1 k)) → whole ≡ made_text clients turns
+unfolding made_text
+made_text-parts clients turns i j k all_declared all_opened all_played first second third whole card declared opened played =
+    let a = line_text card_words in
     let b = lines_text (client_lines clients) in
     let d = lines_text (open_lines clients) in
     let e = lines_text (all_turn_lines clients turns) in
+    let third_is : third ≡ (a ++ b) ++ d =
+    opened ∙ ap (λ n. second ++ lines_text (map open_words (range_with_len 0 n))) all_opened
+    ∙ ap (λ t. t ++ d) (declared ∙ ap (λ n. first ++ lines_text (map client_words (range_with_len 0 n))) all_declared ∙ ap (λ t. t ++ b) card) in
     let tail = flat_map-append line_text (client_lines clients) (open_lines clients ++ all_turn_lines clients turns)
     ∙ ap (λ t. b ++ t) (flat_map-append line_text (open_lines clients) (all_turn_lines clients turns)) in
     played
-    ∙ ap (λ t. t ++ e) (opened ∙ ap (λ t. t ++ d) declared)
-    ∙ append_assoc (first ++ b) d e
-    ∙ append_assoc first b (d ++ e)
-    ∙ ap (λ t. first ++ t) (sym tail)
-
--- the card's line and those behind it are the whole text
-pub made_text-parts : (clients turns : ℕ) (first whole : List ℕ) → first ≡ line_text card_words
-    → whole ≡ first ++ lines_text (client_lines clients ++ (open_lines clients ++ all_turn_lines clients turns)) → whole ≡ made_text clients turns
-unfolding made_text
-made_text-parts clients turns first whole card behind =
-    behind ∙ ap (λ t. t ++ lines_text (client_lines clients ++ (open_lines clients ++ all_turn_lines clients turns))) card
+    ∙ ap (λ n. third ++ lines_text (flat_map (turn_lines clients) (range_with_len 1 n))) all_played
+    ∙ ap (λ t. t ++ e) third_is
+    ∙ append_assoc (a ++ b) d e
+    ∙ append_assoc a b (d ++ e)
+    ∙ ap (λ t. a ++ t) (sym tail)

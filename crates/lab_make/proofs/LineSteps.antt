@@ -69,9 +69,7 @@ with_line-plain s n actor words asked e is = rw (e, is.alone, is.plugged, is.fra
 -- a client writes
 pub op_of-write : (client n : ℕ) (word : List ℕ) → number_of_word word ≡ Some n → nat_le n 4194304 ≡ true → op_of (Client client) (codes "write" ∷ word ∷ []) ≡ Ok (op.Write n)
 unfolding op_of
-op_of-write client n word e most =
-    let least : nat_le 0 n ≡ true = grind (arith, nat_tests) in
-    rw (e, least, most) refl
+op_of-write client n word e most = grind (arith, nat_tests)
 
 -- the card plays one period
 pub op_of-play : op_of Card (codes "play" ∷ codes "64" ∷ []) ≡ Ok (op.Play 64)

@@ -1,14 +1,13 @@
 -- Tests of the first numbers.
-use Rattle.lab_make.specs.Prelude.{add-zero, ap, arith, Bool, refl, suc, sym, true, zero, zero-add, ℕ, ◌+◌, ◌<◌, ◌∙◌, ◌≡◌, list_all, range_with_len}
-use Rattle.text_words.proofs.Tests.{both}
+use Rattle.lab_make.specs.Prelude.{add-zero, ap, arith, Bool, refl, suc, sym, true, zero, zero-add, ℕ, ◌+◌, ◌<◌, ◌∙◌, ◌≡◌, and_parts, list_all, range_with_len}
 
 -- a test that numbers from one on pass is passed by each
 pub range_test : (p : ℕ → Bool) (a n k : ℕ) → list_all p (range_with_len a n) ≡ true → k < n → p (a + k) ≡ true
 range_test p a zero k e h = absurd (omega arith)
-range_test p a (suc n) zero e h = ap p (add-zero a) ∙ (both (p a) (list_all p (range_with_len (a + 1) n)) e).0
+range_test p a (suc n) zero e h = ap p (add-zero a) ∙ (and_parts (p a) (list_all p (range_with_len (a + 1) n)) e).0
 range_test p a (suc n) (suc k) e h =
     let place : a + suc k ≡ a + 1 + k = omega arith in
-    ap p place ∙ range_test p (a + 1) n k (both (p a) (list_all p (range_with_len (a + 1) n)) e).1 (omega arith)
+    ap p place ∙ range_test p (a + 1) n k (and_parts (p a) (list_all p (range_with_len (a + 1) n)) e).1 (omega arith)
 
 -- the same, from 0
 pub below_test : (p : ℕ → Bool) (n k : ℕ) → list_all p (range_with_len 0 n) ≡ true → k < n → p k ≡ true

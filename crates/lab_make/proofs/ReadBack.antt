@@ -1,17 +1,14 @@
 -- What is stored of a workload is what a run of it reads.
-use Rattle.lab_make.specs.Prelude.{ap, arith, Bool, codes, drop, false, get_or, inl, inr, length, List, map, nat_le, nat_lt, None, Ok, refl, Some, subst, suc}
-use Rattle.lab_make.specs.Prelude.{take, true, zero, ℕ, [], ◌*◌, ◌++◌, ◌+◌, ◌<◌, ◌^◌, ◌∙◌, ◌∷◌, ◌≡◌, ◌≢◌, ◌≤◌, ltb-false, nat_tests, decimal_injective}
-use Rattle.lab_make.specs.Prelude.{append_cancel_left, append_cancel_right, take_all, decimal, range_with_len, option_map, All, Err, if◌then◌else◌, Option}
-use Rattle.lab_make.specs.Prelude.{Result, slice_index_or, canonical, Sound, bytes_under, bytes_under-with_file, bytes_under-with_file_other}
-use Rattle.lab_make.specs.Prelude.{bytes_under-with_file_same, Files, with_file, Script, ScriptError, script_of, file_name, IsMadeSound, made_sound}
-use Rattle.lab_make.specs.Prelude.{made_sounds, made_text, made_client, made_script, IsReadBack, made_input, script_name, sound_files, with_files}
-use Rattle.lab_make.specs.Prelude.{with_workload, IsWorkload}
-use Rattle.wav_io.specs.declared.error.WavError.{WavError}
-use Rattle.wav_io.specs.declared.error.WavError.TheVariants.{TooLong}
+use Rattle.lab_make.specs.Prelude.{ap, arith, Bool, codes, drop, false, get_or, inl, inr, length, List, map, nat_lt, None, Ok, refl, Some, subst, suc, take}
+use Rattle.lab_make.specs.Prelude.{true, zero, ℕ, [], ◌*◌, ◌++◌, ◌+◌, ◌<◌, ◌^◌, ◌∙◌, ◌∷◌, ◌≡◌, ◌≢◌, ◌≤◌, ltb-false, nat_tests, decimal_injective}
+use Rattle.lab_make.specs.Prelude.{append_cancel_left, append_cancel_right, take_all, get_or-map-range_with_len, length-map-range_with_len, decimal}
+use Rattle.lab_make.specs.Prelude.{range_with_len, option_map, All, Err, if◌then◌else◌, Option, Result, canonical, Sound, bytes_under, bytes_under-with_file}
+use Rattle.lab_make.specs.Prelude.{bytes_under-with_file_other, bytes_under-with_file_same, Files, with_file, Script, ScriptError, script_of, file_name}
+use Rattle.lab_make.specs.Prelude.{IsMadeSound, made_sound, made_sounds, made_text, made_client, made_script, IsReadBack, made_input, script_name, sound_files}
+use Rattle.lab_make.specs.Prelude.{with_files, with_workload, IsWorkload}
 use Rattle.lab_lines.specs.declared.script.CardLine.{CardLine}
-use Rattle.lab_stop.specs.Causes.{Cause, content_in, bytes_or_cause, ◌>>=◌}
-use Rattle.lab_input.specs.Input.{RunInput, as_script, capture_in, with_byte_count, input_in, most_of_run, script_in, sound_in, sounds_in, wav_in, with_weight, within_run}
-use Rattle.lab_input.specs.Plug.{sound_file}
+use Rattle.lab_stop.specs.Causes.{Cause, bytes_or_cause, ◌>>=◌}
+use Rattle.lab_input.specs.Input.{RunInput, as_script, capture_in, input_in, most_of_run, script_in, sound_in, sounds_in, wav_in}
 use Rattle.lab_make.specs.declared.workload.Workload.{Workload}
 use Rattle.lab_make.proofs.SoundSizes.{length-made}
 
@@ -115,15 +112,7 @@ pub record IsReadable (files : Files) (name : List ℕ) (sound : Sound) : Type 0
 sound_in-readable : (files : Files) (total : ℕ) (name : List ℕ) (sound : Sound) → IsReadable files name sound → total + 16428 ≤ most_of_run
     → sound_in files total None name ≡ Ok (sound, total + 16428)
 unfolding sound_in wav_in
-sound_in-readable files total name sound is room =
-    let test : nat_le (total + 16428) most_of_run ≡ true = grind (arith, nat_tests, room) in
-    let content : content_in files name ≡ Ok (canonical sound) = ap (bytes_or_cause name) is.is_held in
-    let read : (content_in files name >>= λ (bytes : List ℕ). with_weight name None (length bytes) (sound_file None bytes)) ≡ Ok (sound, 16428) =
-    ap (λ (r : Result (List ℕ) Cause). r >>= λ (bytes : List ℕ). with_weight name None (length bytes) (sound_file None bytes)) content
-    ∙ (ap (λ (s : Result Sound WavError). with_weight name None (length (canonical sound)) s) is.back
-    ∙ ap (λ (n : ℕ). Ok (sound, n)) is.size) in
-    ap (λ (r : Result (Sound × ℕ) Cause). r >>= λ (read : Sound × ℕ). with_byte_count name (total + read.1) (within_run (total + read.1) read.0)) read
-    ∙ ap (λ (fits : Bool). with_byte_count name (total + 16428) (if fits then Ok sound else Err TooLong)) test
+sound_in-readable files total name sound is room = grind (arith, nat_tests)
 
 -- the sounds of all clients' files
 sounds_in-readable : (files : Files) (card : CardLine) (seed first count total : ℕ)
@@ -142,21 +131,11 @@ sounds_in-readable files card seed first (suc count) total are room =
     ∙ ap (λ (r : Result (List Sound) Cause). r >>= λ (sounds : List Sound). Ok (made_sound seed first ∷ sounds))
     (sounds_in-readable files card seed (first + 1) count (total + 16428) next (omega (arith, room)))
 
--- a member of a list that is made number by number
-index-made : (f : ℕ → Sound) (a n j : ℕ) (d : Sound) → j < n → slice_index_or (map f (range_with_len a n)) j d ≡ f (a + j)
-index-made f a zero j d inside = absurd (omega (arith, inside))
-index-made f a (suc n) zero d inside = ap f (omega arith)
-index-made f a (suc n) (suc j) d inside = index-made f (a + 1) n j d (omega (arith, inside)) ∙ ap f (omega arith)
-
-length-made_sounds : (f : ℕ → Sound) (a n : ℕ) → length (map f (range_with_len a n)) ≡ n
-length-made_sounds f a zero = refl
-length-made_sounds f a (suc n) = ap suc (length-made_sounds f (a + 1) n)
-
 -- what holds of all sounds of a workload holds of each
 of-client : (P : Sound → Type 0) (seed n j : ℕ) → All P (made_sounds seed n) → j < n → P (made_sound seed (0 + j))
 of-client P seed n j all inside =
-    subst P (index-made (made_sound seed) 0 n j (made_sound seed 0) inside)
-    (all j (made_sound seed 0) (let len = length-made_sounds (made_sound seed) 0 n in omega (arith, inside, len)))
+    subst P (get_or-map-range_with_len (made_sound seed) 0 n j (0 + j) (made_sound seed 0) inside refl)
+    (all j (made_sound seed 0) (let len = length-map-range_with_len (made_sound seed) 0 n in omega (arith, inside, len)))
 
 -- what `run made.script made` reads where a workload is stored
 pub input-made : (w : Workload) → IsWorkload w → script_of (made_text w.clients w.phases) ≡ Ok (made_script w.clients w.phases)

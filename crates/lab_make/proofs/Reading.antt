@@ -1,6 +1,6 @@
 -- The text of a workload spells its script: the reader of scripts goes through its lines.
-use Rattle.lab_make.specs.Prelude.{add-zero, ap, arith, codes, false, is_none, length, List, map, nat_le, nat_lt, None, Ok, refl, Some, suc, sym, true, zero}
-use Rattle.lab_make.specs.Prelude.{zero-add, ℕ, [], ◌*◌, ◌++◌, ◌+◌, ◌<◌, ◌==◌, ◌∙◌, ◌∷◌, ◌≡◌, ◌≤◌, false≢true, Decides-eqb, nat_tests}
+use Rattle.lab_make.specs.Prelude.{add-zero, ap, arith, codes, false, is_none, length, List, map, nat_le, None, Ok, refl, Some, suc, sym, true, zero, zero-add}
+use Rattle.lab_make.specs.Prelude.{ℕ, [], ◌*◌, ◌++◌, ◌+◌, ◌<◌, ◌∙◌, ◌∷◌, ◌≡◌, ◌≤◌, false≢true, le-leb, le-ltb, lt-leb, ne_eqb, Decides-eqb}
 use Rattle.lab_make.specs.Prelude.{length-map-range_with_len, map-range_with_len_more, decimal, digits, enumerate_from, position, range_with_len, Option}
 use Rattle.lab_make.specs.Prelude.{number_of_word-decimal, Actor, Card, Client, Reader, Item, Line, actor_named, ends_lap, inside, is_beside, is_client}
 use Rattle.lab_make.specs.Prelude.{is_reader, keywords, or_else, State, unknown_inside, with_client, with_line, with_words, after, on_line, file_name}
@@ -51,30 +51,18 @@ none_is : {A : Type 0} (o : Option A) → is_none o ≡ true → o ≡ None
 none_is None e = refl
 none_is (Some x) e = absurd (false≢true e)
 
-nat_eq-lt : (j k : ℕ) → j < k → (j == k) ≡ false
-nat_eq-lt j k h = grind (arith, nat_tests)
-
-nat_le-lt : (a b : ℕ) → b < a → nat_le a b ≡ false
-nat_le-lt a b h = grind (arith, nat_tests)
-
-nat_le-le : (a b : ℕ) → a ≤ b → nat_le a b ≡ true
-nat_le-le a b h = grind (arith, nat_tests)
-
-pub nat_lt-le : (a b : ℕ) → b ≤ a → nat_lt a b ≡ false
-nat_lt-le a b h = grind (arith, nat_tests)
-
 -- no client has the name of a later one
 position-later : (k : ℕ) → k < 64 → position (is_client (client_name k)) (map made_client (range_with_len 0 k)) ≡ None
 position-later k h =
     position-none (is_client (client_name k)) made_client k
-    (λ j l. client_name-same (0 + j) k (omega arith) h ∙ nat_eq-lt (0 + j) k (omega arith))
+    (λ j l. client_name-same j k (omega arith) h ∙ ne_eqb j k (λ e. omega arith))
 
 -- the client of a name
 position-own : (clients k : ℕ) → clients ≤ 64 → k < clients → position (is_client (client_name k)) (map made_client (range_with_len 0 clients)) ≡ Some k
 position-own clients k few h =
     position-first (is_client (client_name k)) made_client clients k h
-    (λ j l. client_name-same (0 + j) k (omega arith) (omega arith) ∙ nat_eq-lt (0 + j) k (omega arith))
-    (client_name-same (0 + k) k (omega arith) (omega arith) ∙ (Decides-eqb (0 + k) k).1 (zero-add k))
+    (λ j l. client_name-same j k (omega arith) (omega arith) ∙ ne_eqb j k (λ e. omega arith))
+    (client_name-same k k (omega arith) (omega arith) ∙ (Decides-eqb k k).1 refl)
 
 -- a client by its place
 abbrev pub by_place : Option ℕ → List ℕ → Option Actor
@@ -87,24 +75,10 @@ with_words-client k h =
     let s = outside_of k [] 0 in
     let new : actor_named s (client_name k) ≡ None = ap (λ place. by_place place (client_name k)) (position-later k h) in
     let count = length-map-range_with_len made_client 0 k in
-    let room : nat_le 64 (length s.clients) ≡ false = ap (nat_le 64) count ∙ nat_le-lt 64 k h in
+    let room : nat_le 64 (length s.clients) ≡ false = ap (nat_le 64) count ∙ lt-leb 64 k h in
     let client = client_of-plain s (k + 2) (client_name k) (file_name k) (client_name-is_name k h) (file_name-is_file k h) new room refl in
     ap (λ c. c >>= (λ client. Ok (record s { clients = s.clients ++ client ∷ [] }))) client
     ∙ ap (λ cs. Ok (record s { clients = cs })) (sym (map-range_with_len_more made_client 0 k k (zero-add k)))
-
--- a line before a limit, and those after it
-before-limit : (k j limit : ℕ) → k + suc j ≤ limit → k < limit
-before-limit k j limit h = omega arith
-
-later-limit : (k j limit : ℕ) → k + suc j ≤ limit → k + 1 + j ≤ limit
-later-limit k j limit h = omega arith
-
--- one line more
-add-one-add : (k j : ℕ) → k + 1 + j ≡ k + suc j
-add-one-add k j = omega arith
-
-add-add-one : (k j : ℕ) → k + j + 1 ≡ k + (j + 1)
-add-add-one k j = omega arith
 
 -- lines that are taken one after the other
 after-each : (state : ℕ → State) (line : ℕ → ℕ) (words : ℕ → List (List ℕ)) (limit : ℕ) (tail : List (List (List ℕ))) → ((k : ℕ) → line k + 1 ≡ line (k + 1))
@@ -114,13 +88,15 @@ after-each state line words limit tail following taken zero k m at within =
     ap (λ n. after (state n) (enumerate_from m tail)) (sym (add-zero k)) ∙ ap (λ n. after (state (k + 0)) (enumerate_from n tail)) (sym (add-zero m))
 after-each state line words limit tail following taken (suc j) k m at within =
     let rest = map words (range_with_len (k + 1) j) ++ tail in
-    let here : with_words (state k) m (words k) ≡ Ok (state (k + 1)) = ap (λ n. with_words (state k) n (words k)) at ∙ taken k (before-limit k j limit within) in
+    let here : with_words (state k) m (words k) ≡ Ok (state (k + 1)) = ap (λ n. with_words (state k) n (words k)) at ∙ taken k (omega arith) in
     let following_line : m + 1 ≡ line (k + 1) = ap (λ n. n + 1) at ∙ following k in
-    let next = after-each state line words limit tail following taken j (k + 1) (m + 1) following_line (later-limit k j limit within) in
+    let next = after-each state line words limit tail following taken j (k + 1) (m + 1) following_line (omega arith) in
+    let states : k + 1 + j ≡ k + suc j = omega arith in
+    let numbers : m + 1 + j ≡ m + suc j = omega arith in
     after-step (state k) (state (k + 1)) m (words k) (enumerate_from (m + 1) rest) here
     ∙ next
-    ∙ ap (λ n. after (state n) (enumerate_from (m + 1 + j) tail)) (add-one-add k j)
-    ∙ ap (λ n. after (state (k + suc j)) (enumerate_from n tail)) (add-one-add m j)
+    ∙ ap (λ n. after (state n) (enumerate_from (m + 1 + j) tail)) states
+    ∙ ap (λ n. after (state (k + suc j)) (enumerate_from n tail)) numbers
 
 -- the lines of clients
 pub after-clients : (j k m : ℕ) (tail : List (List (List ℕ))) → m ≡ k + 2 → k + j ≤ 64
@@ -145,7 +121,7 @@ pub after-opens : (clients j k m : ℕ) (tail : List (List (List ℕ))) → m �
     → after (outside_of clients (openings clients k) 0) (enumerate_from m (map open_words (range_with_len k j) ++ tail))
     ≡ after (outside_of clients (openings clients (k + j)) 0) (enumerate_from (m + j) tail)
 after-opens clients j k m tail at few within =
-    after-each (λ n. outside_of clients (openings clients n) 0) (λ n. clients + 2 + n) open_words clients tail (add-add-one (clients + 2)) (λ n l. with_words-open clients n few l) j k m at within
+    after-each (λ n. outside_of clients (openings clients n) 0) (λ n. clients + 2 + n) open_words clients tail (λ n. omega arith) (λ n l. with_words-open clients n few l) j k m at within
 
 -- the lines of the first clients that write in a turn
 abbrev pub written : ℕ → ℕ → ℕ → List Line
@@ -158,7 +134,7 @@ is_beside-written clients turn (suc k) n = refl
 
 -- the card is far from the last lap of its ring
 ends_lap-made : (played : ℕ) → played ≤ 64000 → ends_lap made_card played ≡ false
-ends_lap-made played h = nat_lt-le (4294967295 * 1024) (0 * 1024 + played + 1024) (omega arith)
+ends_lap-made played h = le-ltb (4294967295 * 1024) (0 * 1024 + played + 1024) (omega arith)
 
 -- the name of a client is no keyword
 keyword_of-name : (k : ℕ) → k < 64 → row_of keywords (client_name k) ≡ None
@@ -183,11 +159,11 @@ with_words-write clients turn k body phases played few h short =
     let s = inside_of clients body begin (written clients turn k) phases played in
     let n = frames_written turn k in
     let small = frames_written-lt turn k in
-    let asked = op_of-write k n (decimal n) (number_of_word-decimal n (omega (arith, small))) (nat_le-le n 4194304 (omega arith)) in
+    let asked = op_of-write k n (decimal n) (number_of_word-decimal n (omega (arith, small))) (le-leb n 4194304 (omega arith)) in
     let taken : IsTaken s (Client k) (op.Write n) = record {
       alone = is_beside-written clients turn k n;
       plugged = refl;
-      frames = nat_lt-le 4194304 (played + 0) (omega arith);
+      frames = le-ltb 4194304 (played + 0) (omega arith);
       laps = ends_lap-made (played + 0) (omega arith);
     } in
     with_words-inside clients k (begin + 1 + k) body begin phases played (written clients turn k) (codes "write" ∷ decimal n ∷ []) few h
@@ -202,14 +178,14 @@ pub after-writes : (clients turn : ℕ) (body : List Item) (phases played j k m 
     ≡ after (inside_of clients body (turn_line clients turn) (written clients turn (k + j)) phases played) (enumerate_from (m + j) tail)
 after-writes clients turn body phases played j k m tail at few within short =
     after-each (λ n. inside_of clients body (turn_line clients turn) (written clients turn n) phases played) (λ n. turn_line clients turn + 1 + n) (write_words turn)
-    clients tail (add-add-one (turn_line clients turn + 1)) (λ n l. with_words-write clients turn n body phases played few l short) j k m at within
+    clients tail (λ n. omega arith) (λ n l. with_words-write clients turn n body phases played few l short) j k m at within
 
 -- a phase begins
 pub with_words-phase : (clients : ℕ) (body : List Item) (phases played n : ℕ) (s : State) → s ≡ record (inside_of clients body 0 [] phases played) { phase = None } → phases < 4096
     → with_words s n (codes "phase" ∷ []) ≡ Ok (inside_of clients body n [] (phases + 1) played)
 with_words-phase clients body phases played n s is h =
     let t = record (inside_of clients body 0 [] phases played) { phase = None } in
-    ap (λ u. with_words u n (codes "phase" ∷ [])) is ∙ with_phase-plain t n (nat_le-lt 4096 phases h)
+    ap (λ u. with_words u n (codes "phase" ∷ [])) is ∙ with_phase-plain t n (lt-leb 4096 phases h)
 
 -- the card plays
 pub with_words-play : (clients : ℕ) (body : List Item) (begin phases played n : ℕ) → played + 64 ≤ 64000
@@ -220,7 +196,7 @@ with_words-play clients body begin phases played n short =
     let taken : IsTaken s Card (op.Play 64) = record {
       alone = refl;
       plugged = refl;
-      frames = nat_lt-le 4194304 (played + 64) (omega arith);
+      frames = le-ltb 4194304 (played + 64) (omega arith);
       laps = ends_lap-made (played + 64) short;
     } in
     with_line-plain s n Card (codes "play" ∷ codes "64" ∷ []) (op.Play 64) op_of-play taken

@@ -1,14 +1,11 @@
 -- A workload's text isn't too long for a script, and its lines are plain.
 use Rattle.lab_make.specs.Prelude.{add-zero, ap, arith, codes, length, length-append, List, map, nat_le, refl, suc, sym, true, zero, ℕ, [], ◌*◌, ◌++◌, ◌+◌, ◌<◌}
-use Rattle.lab_make.specs.Prelude.{◌∙◌, ◌∷◌, ◌≡◌, ◌≤◌, nat_tests, length-decimal-le, flat_map-append, decimal, digits, flat_map, list_all, range_with_len}
+use Rattle.lab_make.specs.Prelude.{◌∙◌, ◌∷◌, ◌≡◌, ◌≤◌, leb-true, length-decimal-le, flat_map-append, decimal, digits, flat_map, list_all, range_with_len}
 use Rattle.lab_make.specs.Prelude.{line_text, lines_text, is_plain_line, all_turn_lines, card_words, client_lines, client_name, client_words, frames_written}
 use Rattle.lab_make.specs.Prelude.{made_lines, made_text, open_lines, open_words, play_lines, turn_lines, write_lines, write_words}
 use Rattle.std.proofs.lemmas.List.Folds.{list_all-append, list_all-map}
 use Rattle.lab_make.proofs.Names.{client_words-plain, frames_written-lt, open_words-plain, write_words-plain}
 use Rattle.lab_make.proofs.NumberTests.{below_test, range_all}
-
-at_most : (a b : ℕ) → nat_le a b ≡ true → a ≤ b
-at_most a b e = grind (arith, nat_tests)
 
 -- lines of numbers in a row, each of which has a limit
 length-lines_text-map : (f : ℕ → List (List ℕ)) (most a n : ℕ) → ((k : ℕ) → k < n → length (line_text (f (a + k))) ≤ most)
@@ -36,11 +33,11 @@ length-lines_text-flat_map f most a (suc n) h =
 
 length-client_words : (k : ℕ) → k < 64 → length (line_text (client_words k)) ≤ 23
 unfolding digits
-length-client_words k h = at_most _ _ (below_test (λ j. nat_le (length (line_text (client_words j))) 23) 64 k refl h)
+length-client_words k h = leb-true _ _ (below_test (λ j. nat_le (length (line_text (client_words j))) 23) 64 k refl h)
 
 length-name : (k : ℕ) → k < 64 → length (client_name k) ≤ 3
 unfolding digits
-length-name k h = at_most _ _ (below_test (λ j. nat_le (length (client_name j)) 3) 64 k refl h)
+length-name k h = leb-true _ _ (below_test (λ j. nat_le (length (client_name j)) 3) 64 k refl h)
 
 length-open_words : (k : ℕ) → k < 64 → length (line_text (open_words k)) ≤ 9
 length-open_words k h =

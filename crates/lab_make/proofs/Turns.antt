@@ -1,11 +1,11 @@
 -- The turns of a workload, one after the other, and its whole text.
 use Rattle.lab_make.specs.Prelude.{add-zero, ap, append_assoc, arith, codes, cond, false, length, List, map, nat_lt, None, Ok, refl, suc, sym, zero, zero-add}
-use Rattle.lab_make.specs.Prelude.{ℕ, [], ◌*◌, ◌++◌, ◌+◌, ◌-◌, ◌<◌, ◌∙◌, ◌∷◌, ◌≡◌, ◌≤◌, append-nil, enumerate_from, flat_map, range_with_len, Err, Result}
-use Rattle.lab_make.specs.Prelude.{word_lines, lines_from-lines_text, Card, Item, Line, ScriptError, card_alone, State, after, on_line, refusal_at, script_at}
-use Rattle.lab_make.specs.Prelude.{script_of, script_of_lines, all_turn_lines, client_lines, made_lines, made_text, open_lines, play_lines, turn_lines}
-use Rattle.lab_make.specs.Prelude.{write_lines, made_card, made_client, made_script, turn_items, turn_line}
+use Rattle.lab_make.specs.Prelude.{ℕ, [], ◌*◌, ◌++◌, ◌+◌, ◌-◌, ◌<◌, ◌∙◌, ◌∷◌, ◌≡◌, ◌≤◌, le-ltb, append-nil, enumerate_from, flat_map, range_with_len, Err}
+use Rattle.lab_make.specs.Prelude.{Result, word_lines, lines_from-lines_text, Card, Item, Line, ScriptError, card_alone, State, after, on_line, refusal_at}
+use Rattle.lab_make.specs.Prelude.{script_at, script_of, script_of_lines, all_turn_lines, client_lines, made_lines, made_text, open_lines, play_lines}
+use Rattle.lab_make.specs.Prelude.{turn_lines, write_lines, made_card, made_client, made_script, turn_items, turn_line}
 use Rattle.lab_make.proofs.LineSteps.{card_line-made, with_end-plain}
-use Rattle.lab_make.proofs.Reading.{after-clients, after-opens, after-step, after-writes, inside_of, nat_lt-le, openings, outside_of, with_words-phase, with_words-play, written}
+use Rattle.lab_make.proofs.Reading.{after-clients, after-opens, after-step, after-writes, inside_of, openings, outside_of, with_words-phase, with_words-play, written}
 use Rattle.lab_make.proofs.Sizes.{length-made_text, made_lines-plain}
 use Rattle.lab_script.specs.declared.error.ScriptWhy.TheVariants as why
 use Rattle.lab_lines.specs.declared.line.Item.TheVariants as item
@@ -119,7 +119,7 @@ script_of-made_text clients turns few short =
     let text = made_text clients turns in
     let lines = client_lines clients ++ (open_lines clients ++ all_turn_lines clients turns) in
     let size = length-made_text clients turns few short in
-    let fits : nat_lt 1048576 (length text) ≡ false = nat_lt-le 1048576 (length text) (omega (arith, size)) in
+    let fits : nat_lt 1048576 (length text) ≡ false = le-ltb 1048576 (length text) (omega (arith, size)) in
     ap (λ t. cond t (Err (refusal_at 0 why.TooLong)) (script_of_lines (word_lines text))) fits
     ∙ ap script_of_lines (lines_from-lines_text 1 (made_lines clients turns) (made_lines-plain clients turns few))
     ∙ ap (λ card. on_line 1 card (λ made. script_at (after (card_alone made) (enumerate_from 2 lines)))) card_line-made

@@ -1,9 +1,8 @@
 -- The names that most proofs of this crate cite, passed on from one place. Declares nothing.
 pub use Rattle.std.proofs.Common.{add-one, add-zero, ap, append_assoc, arith, Bool, bytes_eq, codes, cond, drop, false, FitsSigned, get_or, inl, inr, is_none}
-pub use Rattle.std.proofs.Common.{length, length-append, List, map, nat_le, nat_lt, None, not, Ok, one-add, refl, rules, Some, string_bytes, subst, suc}
-pub use Rattle.std.proofs.Common.{suc-add, sum_by, sym, take, true, zero, zero-add, ℕ, ℤ, [], ◌&&◌, ◌*◌, ◌++◌, ◌+◌, ◌-◌, ◌<◌, ◌==◌, ◌^◌, ◌||◌, ◌∙◌, ◌∷◌, ◌≡◌}
-pub use Rattle.std.proofs.Common.{◌≢◌, ◌≤◌}
-pub use Rattle.std.proofs.lemmas.Bool.{false≢true, ltb-false}
+pub use Rattle.std.proofs.Common.{length, length-append, List, map, nat_le, nat_lt, None, Ok, refl, rules, Some, string_bytes, subst, suc, suc-add, sum_by, sym}
+pub use Rattle.std.proofs.Common.{take, true, zero, zero-add, ℕ, ℤ, [], ◌&&◌, ◌*◌, ◌++◌, ◌+◌, ◌-◌, ◌<◌, ◌==◌, ◌^◌, ◌||◌, ◌∙◌, ◌∷◌, ◌≡◌, ◌≢◌, ◌≤◌}
+pub use Rattle.std.proofs.lemmas.Bool.{and_parts, false≢true, le-leb, le-ltb, leb-true, lt-leb, lt-ltb, ltb-false, ne_eqb}
 pub use Rattle.std.proofs.lemmas.Bool.Decides.{Decides-eqb, nat_tests, same_from_decides}
 pub use Rattle.std.proofs.lemmas.Fmt.{decimal_injective, length-decimal-le}
 pub use Rattle.std.proofs.lemmas.Grind.{flat_map-append}
@@ -11,13 +10,13 @@ pub use Rattle.std.proofs.lemmas.Int.{ints, to_z-of_z}
 pub use Rattle.std.proofs.lemmas.List.{append-nil, append_cancel_left, append_cancel_right, take_all}
 pub use Rattle.std.proofs.lemmas.List.Elements.{All-more, All-nil}
 pub use Rattle.std.proofs.lemmas.List.FromFn.{get_or-map-range_with_len, length-map-range_with_len, map-range_with_len_more}
-pub use Rattle.std.proofs.lemmas.List.Sums.{count_by_more_no, count_by_more_yes, fold_more}
+pub use Rattle.std.proofs.lemmas.List.Sums.{count_by_more_no, count_by_more_yes, fold_more, position_or_len_is}
 pub use Rattle.std.proofs.lemmas.Result.{err_from_is_err_and, on_err_weaker, on_ok_weaker}
 pub use Rattle.std.specs.Fmt.{decimal}
 unfoldable pub use Rattle.std.specs.Fmt.{digits}
 pub use Rattle.std.specs.List.{enumerate_from, flat_map, list_all, position, position_or_len, range_with_len}
 pub use Rattle.std.specs.Option.{option_map}
-pub use Rattle.std.specs.Prelude.{All, Err, IfOk, if◌then◌else◌, IsErrAnd, OnErr, OnOk, Option, Result, slice_index_or}
+pub use Rattle.std.specs.Prelude.{All, Err, IfOk, if◌then◌else◌, IsErrAnd, OnErr, OnOk, Option, Result, ◌%◌}
 pub use Rattle.rand_pcg.proofs.LcgLemmas.{advance_zero}
 pub use Rattle.rand_pcg.specs.Pcg.{multiplier_64}
 pub use Rattle.wav_io.specs.Canonical.{canonical}
@@ -50,5 +49,5 @@ unfoldable pub use Rattle.lab_make.specs.Lines.{made_text}
 pub use Rattle.lab_make.specs.Script.{made_card, made_client, made_opening, made_script, turn_items, turn_line, write_line}
 pub use Rattle.lab_make.specs.Stored.{IsReadBack, made_input, NamedFile, script_name, sound_files, StoredInPart, with_files, with_input, with_workload}
 pub use Rattle.lab_make.specs.Summary.{is_pipe, words_laid, xrun_count}
-pub use Rattle.lab_make.specs.Workload.{is_numeral, IsWorkload, within}
+pub use Rattle.lab_make.specs.Workload.{is_numeral, IsWorkload, number_between}
 unfoldable pub use Rattle.lab_make.specs.Workload.{number_in}

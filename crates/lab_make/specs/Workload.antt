@@ -11,12 +11,12 @@ abbrev pub is_numeral : List ℕ → Bool
 is_numeral word = nat_le 1 (length word) && nat_le (length word) 20 && all_ascii_digits word
 
 -- a number, where it is in a range
-abbrev pub within : ℕ → ℕ → ℕ → Option ℕ
-within least most n = if nat_le least n && nat_le n most then Some n else None
+abbrev pub number_between : ℕ → ℕ → ℕ → Option ℕ
+number_between least most n = if nat_le least n && nat_le n most then Some n else None
 
 -- the number that a word means, where it is one in this range
 unfoldable pub number_in : ℕ → ℕ → List ℕ → Option ℕ
-number_in least most word = if is_numeral word then within least most (digits_value 10 word) else None
+number_in least most word = if is_numeral word then number_between least most (digits_value 10 word) else None
 
 -- what follows from a value where there is one; otherwise the first cause stays
 infixl 10 ◌>>=◌

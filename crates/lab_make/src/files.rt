@@ -1,8 +1,8 @@
 //! The WAV files of a workload: the samples of one generator, file after file.
-ghost use Rattle.std.specs.Prelude.{◌≡◌, ◌≤ℤ◌, All, OnOk, IfOk, IfErr, negsuc, pos, length, string_bytes};
+ghost use Rattle.std.specs.Prelude.{◌≡◌, All, OnOk, IfOk, IfErr, length, string_bytes};
 ghost use Rattle.rand_pcg.specs.Lcg.{advance, next};
 ghost use Rattle.rand_pcg.specs.Pcg.{multiplier_64};
-ghost use Rattle.lab_make.specs.Files.{IsMadeSound, file_name, made_sounds, next_sample, sample_of_random, samples_from, sound_from};
+ghost use Rattle.lab_make.specs.Files.{IsMadeSound, file_name, made_sounds, next_sample, samples_from, sound_from};
 
 use rand_core::SeedableRng;
 use rand_core::utils::NextWord;
@@ -20,25 +20,17 @@ const RATE: u32 = 48000;
 /// How many samples a made file has: 4,096 frames of two channels.
 const SAMPLES: usize = 8192;
 
-/// The sample that a word gives: its 14 highest bits less 8192, so that it is from -8192 to 8191.
-fn sample_of(word: u32) -> i16
-    ensures value { result ≡ sample_of_random word }
-    ensures least { negsuc 8191 ≤ℤ result }
-    ensures most { result ≤ℤ pos 8191 }
-{
-    (word >> 18) as i16 - 8192
-}
-
-/// The next sample of a generator, which draws one word.
+/// The next sample of a generator, which draws one word: its 14 highest bits less 8192, so that it is from -8192 to 8191.
 #[tactic(auto, unfolding(crate::specs::Files::next_sample))]
 fn next_sample(generator: &mut Lcg64Xsh32) -> i16
     ensures sample { result ≡ next_sample generator.old }
     ensures next { generator.new ≡ next 64 multiplier_64 generator.old }
 {
-    sample_of(generator.next_word())
+    (generator.next_word() >> 18) as i16 - 8192
 }
 
 /// The next samples of a generator, as many as a file has.
+#[tactic(auto, using(crate::proofs::Refused::IfOk_err))]
 fn made_samples(alloc: Global, generator: &mut Lcg64Xsh32) -> Result<Vec<i16>, AllocError>
     ensures samples { IfOk result (λ samples. samples.items ≡ samples_from generator.old) }
     ensures next { OnOk result (generator.new ≡ advance 64 multiplier_64 8192 generator.old) }
@@ -51,6 +43,7 @@ fn made_samples(alloc: Global, generator: &mut Lcg64Xsh32) -> Result<Vec<i16>, A
 }
 
 /// The next file of a generator.
+#[tactic(auto, using(crate::proofs::Refused::IfOk_err))]
 fn made_file(alloc: Global, generator: &mut Lcg64Xsh32) -> Result<Wav, AllocError>
     ensures file { IfOk result (λ file. file ≡ sound_from generator.old) }
     ensures next { OnOk result (generator.new ≡ advance 64 multiplier_64 8192 generator.old) }
@@ -74,6 +67,7 @@ fn made_file(alloc: Global, generator: &mut Lcg64Xsh32) -> Result<Wav, AllocErro
 /// # Errors
 ///
 /// `Memory`, where memory ran out.
+#[tactic(auto, using(crate::proofs::Refused::IfOk_err))]
 pub fn made_files(alloc: Global, seed: u64, clients: u32) -> Result<Vec<Wav>, PcmError>
     ensures files { IfOk result (λ files. files.items ≡ made_sounds seed clients) }
     ensures count { IfOk result (λ files. length files.items ≡ clients) }

@@ -23,6 +23,7 @@ pub struct Made {
 /// # Errors
 ///
 /// `Memory`, where memory ran out.
+#[tactic(auto, using(crate::proofs::Refused::IfOk_err))]
 pub fn make(alloc: Global, seed: u64, clients: u32, turns: u32) -> Result<Made, PcmError>
     ensures script { IfOk result (λ made. made.script.items ≡ made_text clients turns) }
     ensures wavs { IfOk result (λ made. made.wavs.items ≡ made_sounds seed clients) }

@@ -16,6 +16,7 @@ use std::alloc::Global;
 /// # Errors
 ///
 /// `Memory`, where memory ran out.
+#[tactic(auto, using(crate::proofs::Refused::IfOk_err))]
 pub fn made_script(alloc: Global, clients: u32, turns: u32) -> Result<Script, PcmError>
     requires clients { clients ≤ 64 }
     requires turns { turns ≤ 1000 }

@@ -1,6 +1,6 @@
 //! The size of a workload, as words of a command line give it.
 ghost use Rattle.std.specs.Prelude.{◌≡◌, ◌≤◌, IfOk, IfSome};
-ghost use Rattle.lab_make.specs.Workload.{IsWorkload, is_numeral, number_in, within, workload_of};
+ghost use Rattle.lab_make.specs.Workload.{IsWorkload, is_numeral, number_in, number_between, workload_of};
 
 use std::fmt;
 use text_words::{are_digits, checked_value};
@@ -54,8 +54,8 @@ fn is_numeral(word: &[u8]) -> bool
 }
 
 /// A number, where it is in a range.
-fn within(least: u64, most: u64, value: u64) -> Option<u64>
-    ensures { result ≡ within least most value }
+fn number_between(least: u64, most: u64, value: u64) -> Option<u64>
+    ensures { result ≡ number_between least most value }
 {
     if least <= value && value <= most {
         Some(value)
@@ -75,7 +75,7 @@ fn number_in(least: u64, most: u64, word: &[u8]) -> Option<u64>
         return None;
     }
     let value = checked_value(word)?;
-    within(least, most, value)
+    number_between(least, most, value)
 }
 
 /// The workload of three words: the seed, below `2^64`; the number of clients, 1 to 64; and the number

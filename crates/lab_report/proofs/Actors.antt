@@ -1,8 +1,7 @@
 -- Each request of a script is of an actor that it declares.
 use Rattle.lab_report.specs.Prelude.{add-one, append_assoc, length, List, map, refl, suc, zero, ℕ, [], ◌++◌, ◌+◌, ◌∷◌, ◌≡◌, map-append, All-append, All-cons}
-use Rattle.lab_report.specs.Prelude.{All-filter, All-map, All-nil, recursion_from_All, AllByRecursion, Line, Request, Script, IsActor, IsItem, IsScript}
+use Rattle.lab_report.specs.Prelude.{All-filter, All-map, All-nil, recursion_from_All, All, AllByRecursion, Line, Request, Script, IsActor, IsItem, IsScript}
 use Rattle.lab_report.specs.Prelude.{phases_of, before_place, in_order, item_requests, of_place, request_of, requests_from, requests_of}
-use Rattle.std.specs.List.{All}
 use Rattle.lab_lines.specs.declared.line.Item.{Item}
 use Rattle.lab_script.proofs.States.{border-actor}
 use Rattle.lab_lines.specs.declared.line.Item.TheVariants as item

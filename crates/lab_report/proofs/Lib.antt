@@ -2,7 +2,6 @@ pub mod Parts
 pub mod Actors
 pub mod Sorting
 pub mod RowLine
-pub mod Ends
 pub mod Printed
 pub mod PrintedRows
 pub mod PrintedReport
@@ -10,3 +9,4 @@ pub mod PrintedWhole
 pub mod Back
 pub mod Spelled
 pub mod SpelledText
+pub mod SpelledReport

@@ -8,12 +8,7 @@ use Rattle.text_words.specs.Lexing.{first_and_rest}
 first_by : (b : ℕ) (bs : List ℕ) (t : Bool) → is_feed b ≡ t
     → position_or_len is_feed (b ∷ bs) < length (b ∷ bs) → (position_or_len is_feed bs < length bs → lines_of bs ≡ take (suc (position_or_len is_feed bs)) bs ∷ lines_of (drop (suc (position_or_len is_feed bs)) bs))
     → lines_of (b ∷ bs) ≡ take (suc (position_or_len is_feed (b ∷ bs))) (b ∷ bs) ∷ lines_of (drop (suc (position_or_len is_feed (b ∷ bs))) (b ∷ bs))
-first_by b bs true e h rest = rw e refl
-first_by b bs false e h rest =
-    let at : position_or_len is_feed (b ∷ bs) ≡ suc (position_or_len is_feed bs) = rw e (one-add (position_or_len is_feed bs)) in
-    let within : position_or_len is_feed bs < length bs = omega arith in
-    let said : lines_of (b ∷ bs) ≡ onto_first b (lines_of bs) = rw e refl in
-    rw (said, at, rest within) refl
+first_by b bs t e h rest = grind (arith, nat_tests)
 
 lines_first : (xs : List ℕ) → position_or_len is_feed xs < length xs → lines_of xs ≡ take (suc (position_or_len is_feed xs)) xs ∷ lines_of (drop (suc (position_or_len is_feed xs)) xs)
 lines_first [] h = absurd (omega arith)

@@ -1,13 +1,15 @@
 -- What is printed is read back: words, numbers, and the lines of a text.
-use Rattle.lab_report.specs.Prelude.{ap, append_assoc, arith, Bool, bytes_eq, codes, drop, false, length, List, map, None, not, Ok, one-add, refl, Some, subst}
-use Rattle.lab_report.specs.Prelude.{sym, take, true, ℕ, [], ◌++◌, ◌<◌, ◌^◌, ◌∙◌, ◌∷◌, ◌≡◌, ◌≤◌, and_from, and_parts, not-true, nat_tests, digits_decimal}
-use Rattle.lab_report.specs.Prelude.{join_with_byte-slice_split, length-slice_split, slice_split-cons_no, slice_split-cons_yes, bytes_eq-Decides, decimal}
-use Rattle.lab_report.specs.Prelude.{AllByRecursion, flat_map, join_with_byte, list_all, position_or_len, slice_split, is_feed, is_space, decimal_of-decimal}
-use Rattle.lab_report.specs.Prelude.{all_digits, own, some_or, ◌>>=◌, dash_or_number, expect_word, expect_words, front_word, is_end, lines_of, most_frames}
-use Rattle.lab_report.specs.Prelude.{next_number, number_at, number_or_dash_at}
+use Rattle.lab_report.specs.Prelude.{ap, append_assoc, arith, Bool, bytes_eq, codes, drop, false, length, length-append, List, map, None, not, Ok, one-add}
+use Rattle.lab_report.specs.Prelude.{Option, refl, Some, sym, take, true, ℕ, [], ◌++◌, ◌<◌, ◌^◌, ◌∙◌, ◌∷◌, ◌≡◌, ◌≢◌, ◌≤◌, and_from, and_parts, false≢true}
+use Rattle.lab_report.specs.Prelude.{not-true, nat_tests, same_from_decides, digits_decimal, recursion_from_All, join_with_byte-slice_split, length-slice_split}
+use Rattle.lab_report.specs.Prelude.{slice_split-cons_no, slice_split-cons_yes, bytes_eq-Decides, decimal, AllByRecursion, flat_map, join_with_byte, list_all}
+use Rattle.lab_report.specs.Prelude.{position_or_len, slice_split, is_feed, is_space, decimal_of-decimal, all_digits, own, weaker, some_or, ◌>>=◌, IsWide}
+use Rattle.lab_report.specs.Prelude.{IsWideWhere, number_or_dash, dash_or_number, expect_word, expect_words, front_word, is_end, lines_of, most_frames}
+use Rattle.lab_report.specs.Prelude.{next_number, number_or_dash_at}
 use Rattle.std.proofs.Math.Seq.{take-append_seam}
 use Rattle.std.specs.Char.{is_ascii_digit}
 use Rattle.std.specs.List.{onto_first as piece_first}
+use Rattle.std.specs.Prelude.{All}
 use Rattle.std.specs.Str.{all_ascii_digits}
 use Rattle.lab_report.specs.declared.error.ReportWhy.TheVariants as why
 
@@ -34,66 +36,45 @@ drop-append : (w s : List ℕ) → drop (length w) (w ++ s) ≡ s
 drop-append [] s = refl
 drop-append (b ∷ bs) s = drop-append bs s
 
-more_than : (w : List ℕ) (e : ℕ) (r : List ℕ) → 0 < length (w ++ e ∷ r)
-more_than [] e r = omega arith
-more_than (b ∷ bs) e r = omega arith
-
 -- a word is read where one of its ends follows
 pub front_word-printed : (w : List ℕ) (e : ℕ) (r : List ℕ) → list_all in_word w ≡ true → is_end e ≡ true → front_word (w ++ e ∷ r) ≡ Ok (w, e ∷ r)
 front_word-printed w e r h t =
-    front_word-some (w ++ e ∷ r) (more_than w e r)
+    front_word-some (w ++ e ∷ r) (omega (arith, length-append w (e ∷ r)))
     ∙ ap (λ n. Ok (take n (w ++ e ∷ r), drop n (w ++ e ∷ r))) (position_or_len-word w e r h t)
-    ∙ ap (λ x. Ok (x, drop (length w) (w ++ e ∷ r))) (take-append_seam w (e ∷ r))
-    ∙ ap (λ x. Ok (w, x)) (drop-append w (e ∷ r))
+    ∙ rw (take-append_seam w (e ∷ r), drop-append w (e ∷ r)) refl
 
 digit_in_word : (b : ℕ) → is_ascii_digit b ≡ true → in_word b ≡ true
 digit_in_word b e = grind (arith, nat_tests)
 
-digits_in_word : (ds : List ℕ) → list_all is_ascii_digit ds ≡ true → list_all in_word ds ≡ true
-digits_in_word [] e = refl
-digits_in_word (d ∷ ds) e =
-    let parts = and_parts (is_ascii_digit d) (list_all is_ascii_digit ds) e in
-    and_from (in_word d) (list_all in_word ds) (digit_in_word d parts.0) (digits_in_word ds parts.1)
-
 -- a number's decimal form is digits
 pub decimal_in_word : (n : ℕ) → n < 2 ^ 64 → list_all in_word (decimal n) ≡ true
-decimal_in_word n h = digits_in_word (decimal n) (all_digits (decimal n) ∙ digits_decimal own n h)
+decimal_in_word n h = weaker is_ascii_digit in_word digit_in_word (decimal n) (all_digits (decimal n) ∙ digits_decimal own n h)
 
-pub number_at-printed : (most n e : ℕ) (r : List ℕ) → n ≤ most → n < 2 ^ 64 → is_end e ≡ true → number_at most (decimal n ++ e ∷ r) ≡ Ok (n, e ∷ r)
-number_at-printed most n e r fits h t =
-    rw (front_word-printed (decimal n) e r (decimal_in_word n h) t) (ap (λ o. (some_or why.Number o) >>= (λ m. Ok (m, e ∷ r))) (decimal_of-decimal most n fits h))
+pub wide : (n : ℕ) → IsWide n → n ≤ most_frames
+wide n h = omega arith
 
 -- a number after a space is read
 pub next_number-printed : (most n e : ℕ) (r : List ℕ) → n ≤ most → n < 2 ^ 64 → is_end e ≡ true → next_number most (32 ∷ (decimal n ++ e ∷ r)) ≡ Ok (n, e ∷ r)
-next_number-printed most n e r fits h t = number_at-printed most n e r fits h t
+next_number-printed most n e r fits h t =
+    rw (front_word-printed (decimal n) e r (decimal_in_word n h) t) (ap (λ o. (some_or why.Number o) >>= (λ m. Ok (m, e ∷ r))) (decimal_of-decimal most n fits h))
+
+-- texts that differ
+pub bytes_differ : (a b : List ℕ) → a ≢ b → bytes_eq a b ≡ false
+bytes_differ a b other = same_from_decides (bytes_eq a b) false (bytes_eq-Decides a b) (λ e. absurd (false≢true e), λ e. absurd (other e))
 
 -- digits are none of the words that aren't
 pub not_digits : (ds w : List ℕ) → all_ascii_digits ds ≡ true → all_ascii_digits w ≡ false → bytes_eq ds w ≡ false
-not_digits ds w d n = not_by (bytes_eq ds w) refl
-  where
-    not_by : (t : Bool) → bytes_eq ds w ≡ t → t ≡ false
-    not_by true e =
-        let same : ds ≡ w = (bytes_eq-Decides ds w).0 e in
-        let wrong : true ≡ false = sym (subst (λ (x : List ℕ). all_ascii_digits x ≡ true) same d) ∙ n in
-        absurd (cc)
-    not_by false e = refl
+not_digits ds w d n = bytes_differ ds w (λ same. false≢true (sym n ∙ ap all_ascii_digits (sym same) ∙ d))
 
--- `-` is read as no number
-pub dash-printed : (e : ℕ) (r : List ℕ) → is_end e ≡ true → number_or_dash_at (codes "-" ++ e ∷ r) ≡ Ok (None, e ∷ r)
-dash-printed e r t = ap (λ w. w >>= (λ word. (some_or why.Word (dash_or_number word.0)) >>= (λ n. Ok (n, word.1)))) (front_word-printed (codes "-") e r refl t)
-
--- a number is read where `-` may be
-pub number-printed : (n e : ℕ) (r : List ℕ) → n < 2 ^ 64 → is_end e ≡ true → number_or_dash_at (decimal n ++ e ∷ r) ≡ Ok (Some n, e ∷ r)
-number-printed n e r h t =
-    let fits : n ≤ most_frames = omega arith in
-    rw (front_word-printed (decimal n) e r (decimal_in_word n h) t, not_digits (decimal n) (codes "-") (digits_decimal own n h) refl, decimal_of-decimal most_frames n fits h) refl
-
-bytes_eq-same : (w : List ℕ) → bytes_eq w w ≡ true
-bytes_eq-same w = (bytes_eq-Decides w w).1 refl
+-- a number or `-` is read
+pub number_or_dash-printed : (o : Option ℕ) (e : ℕ) (r : List ℕ) → IsWideWhere o → is_end e ≡ true → number_or_dash_at (number_or_dash o ++ e ∷ r) ≡ Ok (o, e ∷ r)
+number_or_dash-printed None e r h t = ap (λ w. w >>= (λ word. (some_or why.Word (dash_or_number word.0)) >>= (λ n. Ok (n, word.1)))) (front_word-printed (codes "-") e r refl t)
+number_or_dash-printed (Some n) e r h t =
+    rw (front_word-printed (decimal n) e r (decimal_in_word n h) t, not_digits (decimal n) (codes "-") (digits_decimal own n h) refl, decimal_of-decimal most_frames n (wide n h) h) refl
 
 -- the word that must follow is read
 pub expect_word-printed : (w : List ℕ) (e : ℕ) (r : List ℕ) → list_all in_word w ≡ true → is_end e ≡ true → expect_word w (w ++ e ∷ r) ≡ Ok (e ∷ r)
-expect_word-printed w e r h t = rw (front_word-printed w e r h t, bytes_eq-same w) refl
+expect_word-printed w e r h t = rw (front_word-printed w e r h t, (bytes_eq-Decides w w).1 refl) refl
 
 -- each of some words has no end within
 abbrev pub AreWords : List (List ℕ) → Type 0
@@ -151,6 +132,9 @@ pub lines_of-line : (line rest : List ℕ) → IsLineText line → lines_of (lin
 lines_of-line line rest h = rw h.is (lines_of-words h.words rest h.whole)
 
 -- lines before a text are its first
-pub lines_of-lines : {X : Type 0} (f : X → List ℕ) (xs : List X) (rest : List ℕ) → AllByRecursion (λ x. IsLineText (f x)) xs → lines_of (flat_map f xs ++ rest) ≡ map f xs ++ lines_of rest
-lines_of-lines f [] rest h = refl
-lines_of-lines f (x ∷ xs) rest h = rw (append_assoc (f x) (flat_map f xs) rest, lines_of-line (f x) (flat_map f xs ++ rest) h.0, lines_of-lines f xs rest h.1) refl
+pub lines_of-lines : {X : Type 0} (f : X → List ℕ) (xs : List X) (rest : List ℕ) → All (λ x. IsLineText (f x)) xs → lines_of (flat_map f xs ++ rest) ≡ map f xs ++ lines_of rest
+lines_of-lines {X = X} f xs rest h = by xs (recursion_from_All (λ x. IsLineText (f x)) xs h)
+  where
+    by : (xs : List X) → AllByRecursion (λ x. IsLineText (f x)) xs → lines_of (flat_map f xs ++ rest) ≡ map f xs ++ lines_of rest
+    by [] h = refl
+    by (x ∷ xs) h = rw (append_assoc (f x) (flat_map f xs) rest, lines_of-line (f x) (flat_map f xs ++ rest) h.0, by xs h.1) refl

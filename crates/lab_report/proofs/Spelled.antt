@@ -27,11 +27,7 @@ front_word-is (b ∷ bs) y e =
     sym (take-append-drop n (b ∷ bs)) ∙ ap (λ p. p.0 ++ p.1) same
 
 space_by : (b : ℕ) (bs r : List ℕ) (t : Bool) → is_space b ≡ t → cond t (Ok bs) (Err why.Word) ≡ Ok r → b ∷ bs ≡ 32 ∷ r
-space_by b bs r true t e =
-    let byte : b ≡ 32 = grind (arith, nat_tests) in
-    let rest : bs ≡ r = cc (e) in
-    cc
-space_by b bs r false t e = absurd (cc)
+space_by b bs r is t e = grind (arith, nat_tests)
 
 -- a space that is read is one
 pub space_of-is : (xs r : List ℕ) → space_of xs ≡ Ok r → xs ≡ 32 ∷ r
@@ -55,14 +51,11 @@ pub record Begins {A : Type 0} (P : A → Type 0) (f : A → List ℕ) (xs : Lis
 begins : {A : Type 0} (P : A → Type 0) (f : A → List ℕ) (x : A) (r : List ℕ) (y : A × List ℕ) (xs : List ℕ) → ◌≡◌ {A = Result (A × List ℕ) ReportWhy} (Ok (x, r)) (Ok y) → P x → xs ≡ f x ++ r → Begins P f xs y
 begins P f x r y xs e has is = ok_to (Begins P f xs) (x, r) y e (record { has = has; is = is })
 
-same_pair : {A : Type 0} (f : A → List ℕ) (x : A) (r : List ℕ) (y : A × List ℕ) (xs : List ℕ) → ◌≡◌ {A = Result (A × List ℕ) ReportWhy} (Ok (x, r)) (Ok y) → xs ≡ f x ++ r → xs ≡ f y.0 ++ y.1
-same_pair {A = A} f x r y xs e h = let same : ◌≡◌ {A = A × List ℕ} (x, r) y = cc (e) in h ∙ ap (λ p. f p.0 ++ p.1) same
-
 number_at-is : (most : ℕ) (xs : List ℕ) (y : ℕ × List ℕ) → most < 2 ^ 64 → number_at most xs ≡ Ok y → xs ≡ decimal y.0 ++ y.1
 number_at-is most xs y small e =
     let w = bind_ok (front_word xs) _ y e in
     let n = bind_ok (some_or why.Number (decimal_of most w.0.0)) _ y w.2 in
-    same_pair decimal n.0 w.0.1 y xs n.2
+    ok_to (λ (p : ℕ × List ℕ). xs ≡ decimal p.0 ++ p.1) (n.0, w.0.1) y n.2
     (front_word-is xs w.0 w.1 ∙ ap (λ x. x ++ w.0.1) (decimal_of-is most n.0 w.0.0 small (some_is why.Number _ n.0 n.1)))
 
 pub next_number-is : (most : ℕ) (xs : List ℕ) (y : ℕ × List ℕ) → most < 2 ^ 64 → next_number most xs ≡ Ok y → xs ≡ 32 ∷ (decimal y.0 ++ y.1)
@@ -85,7 +78,7 @@ pub number_or_dash_at-is : (xs : List ℕ) (y : Option ℕ × List ℕ) → numb
 number_or_dash_at-is xs y e =
     let w = bind_ok (front_word xs) _ y e in
     let n = bind_ok (some_or why.Word (dash_or_number w.0.0)) _ y w.2 in
-    same_pair number_or_dash n.0 w.0.1 y xs n.2
+    ok_to (λ (p : Option ℕ × List ℕ). xs ≡ number_or_dash p.0 ++ p.1) (n.0, w.0.1) y n.2
     (front_word-is xs w.0 w.1 ∙ ap (λ x. x ++ w.0.1) (dash_by w.0.0 n.0 (bytes_eq w.0.0 (codes "-")) (decimal_of most_frames w.0.0) refl refl (some_is why.Word _ n.0 n.1)))
 
 expect_by : (want : List ℕ) (w : List ℕ × List ℕ) (r : List ℕ) (t : Bool) (x : ReportWhy) → bytes_eq w.0 want ≡ t → cond t (Ok w.1) (Err x) ≡ Ok r → (w.0 ≡ want) × (w.1 ≡ r)
@@ -131,11 +124,10 @@ place_of-is : (xs : List ℕ) (y : (ℕ × ℕ) × List ℕ) → frame_and_chann
 place_of-is xs y e =
     let a = bind_ok (next_number most_frames xs) _ y e in
     let b = bind_ok (next_number 255 a.0.1) _ y a.2 in
-    let same : ◌≡◌ {A = (ℕ × ℕ) × List ℕ} ((a.0.0, b.0.0), b.0.1) y = cc (b.2) in
-    next_number-is most_frames xs a.0 small_frames a.1
+    ok_to (λ (p : (ℕ × ℕ) × List ℕ). xs ≡ 32 ∷ ((decimal p.0.0 ++ 32 ∷ decimal p.0.1) ++ p.1)) ((a.0.0, b.0.0), b.0.1) y b.2
+    (next_number-is most_frames xs a.0 small_frames a.1
     ∙ ap (λ r. 32 ∷ (decimal a.0.0 ++ r)) (next_number-is 255 a.0.1 b.0 small_byte b.1)
-    ∙ ap (λ r. 32 ∷ r) (sym (append_assoc (decimal a.0.0) (32 ∷ decimal b.0.0) b.0.1))
-    ∙ ap (λ (p : (ℕ × ℕ) × List ℕ). 32 ∷ ((decimal p.0.0 ++ 32 ∷ decimal p.0.1) ++ p.1)) same
+    ∙ ap (λ r. 32 ∷ r) (sym (append_assoc (decimal a.0.0) (32 ∷ decimal b.0.0) b.0.1)))
 
 -- why there was an xrun
 xrun_by-is : (w rest : List ℕ) (y : XrunWhy × List ℕ) → xrun_by w rest ≡ Ok y → Begins HasXrunText xrun_text (w ++ rest) y

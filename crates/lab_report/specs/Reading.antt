@@ -36,34 +36,20 @@ view d = record { head = d.head; rows = d.rows.items; segments = d.segments.item
 abbrev pub nothing : State
 nothing = record { head = false; rows = []; segments = []; runs = []; played = None; ended = false }
 
--- the state and the position at the end of a row
-unfoldable pub row_end : List ℕ → Result (RowState × Option ℕ) ReportWhy
-row_end rest = do
-  state ← state_at rest
-  more ← space_of state.1
-  seen ← number_or_dash_at more
-  end ← feed_of seen.1
-  Ok (state.0, seen.0)
-
 -- the row of what is left of a line after the front of a row that is about this request
 unfoldable pub row_after_front : Request → List ℕ → Result Row ReportWhy
 row_after_front request rest = do
   answer ← answer_at rest
-  before ← space_of answer.1
-  ends ← row_end before
-  Ok (record { phase = request.phase; actor = request.actor; op = request.op; answer = answer.0; state = ends.0; seen = ends.1 })
-
--- the row of a line that is about this request
-unfoldable pub row_of_line : Script → Request → List ℕ → Result Row ReportWhy
-row_of_line script request line = do
-  front ← expect_words (slice_split is_space (front_text script request)) line
-  answer ← answer_at front
   before ← space_of answer.1
   state ← state_at before
   more ← space_of state.1
   seen ← number_or_dash_at more
   end ← feed_of seen.1
   Ok (record { phase = request.phase; actor = request.actor; op = request.op; answer = answer.0; state = state.0; seen = seen.0 })
+
+-- the row of a line that is about this request
+unfoldable pub row_of_line : Script → Request → List ℕ → Result Row ReportWhy
+row_of_line script request line = (expect_words (slice_split is_space (front_text script request)) line) >>= (row_after_front request)
 
 -- the client that is named after a space, by its number, and the rest
 abbrev pub client_and_rest : Script → List ℕ → Result (ℕ × List ℕ) ReportWhy
@@ -87,21 +73,8 @@ segment_end rest = do
 unfoldable pub segment_at : Script → List ℕ → Result (ℕ × Segment) ReportWhy
 segment_at script rest = do
   client ← client_and_rest script rest
-  source ← next_number most_frames client.1
-  card ← next_number most_frames source.1
-  whole ← next_number most_frames card.1
-  part ← next_number 255 whole.1
-  end ← feed_of part.1
-  Ok (client.0, record { source = source.0; card = card.0; whole = whole.0; part = part.0 })
-
--- `run NAME FIRST COUNT`, after its first word
-unfoldable pub run_at : Script → List ℕ → Result (ℕ × ℕ × ℕ) ReportWhy
-run_at script rest = do
-  reader ← reader_and_rest script rest
-  first ← next_number most_frames reader.1
-  count ← next_number most_frames first.1
-  end ← feed_of count.1
-  Ok (reader.0, first.0, count.0)
+  segment ← segment_end client.1
+  Ok (client.0, segment)
 
 -- `played FIRST COUNT`, after its first word
 unfoldable pub played_run : List ℕ → Result (ℕ × ℕ) ReportWhy
@@ -110,6 +83,13 @@ played_run rest = do
   count ← next_number most_frames first.1
   end ← feed_of count.1
   Ok (first.0, count.0)
+
+-- `run NAME FIRST COUNT`, after its first word
+unfoldable pub run_at : Script → List ℕ → Result (ℕ × ℕ × ℕ) ReportWhy
+run_at script rest = do
+  reader ← reader_and_rest script rest
+  frames ← played_run reader.1
+  Ok (reader.0, frames.0, frames.1)
 
 -- a segment more
 abbrev pub with_segment : Script → State → List ℕ → Result State ReportWhy

@@ -1,23 +1,11 @@
 //! The numbers of a report: decimal, without leading zeros.
 ghost use Rattle.std.specs.Prelude.{◌≡◌, ◌≤◌, IfOk};
 ghost use Rattle.lab_report.specs.Causes.{Gives};
-ghost use Rattle.lab_report.specs.Words.{number_at, next_number, dash_or_number, number_or_dash_at};
+ghost use Rattle.lab_report.specs.Words.{next_number, dash_or_number, number_or_dash_at};
 
 use crate::error::ReportWhy;
 use crate::words::{space_of, word_of};
 use text_words::decimal_of;
-
-/// A number up to a limit, and the rest.
-fn number_at(most: u64, rest: &[u8]) -> Result<(u64, &[u8]), ReportWhy>
-    ensures value { Gives (λ n. (n.0, n.1.now)) result (number_at most rest.now) }
-    ensures most { IfOk result (λ n. n.0 ≤ most) }
-{
-    let (word, rest) = word_of(rest)?;
-    match decimal_of(most, word) {
-        Some(n) => Ok((n, rest)),
-        None => Err(ReportWhy::Number),
-    }
-}
 
 /// A number up to a limit after a space, and the rest.
 pub fn next_number(most: u64, rest: &[u8]) -> Result<(u64, &[u8]), ReportWhy>
@@ -25,7 +13,11 @@ pub fn next_number(most: u64, rest: &[u8]) -> Result<(u64, &[u8]), ReportWhy>
     ensures most { IfOk result (λ n. n.0 ≤ most) }
 {
     let rest = space_of(rest)?;
-    number_at(most, rest)
+    let (word, rest) = word_of(rest)?;
+    match decimal_of(most, word) {
+        Some(n) => Ok((n, rest)),
+        None => Err(ReportWhy::Number),
+    }
 }
 
 /// A number, or none, which is written `-`.

@@ -3,12 +3,12 @@ ghost use Rattle.std.specs.Prelude.{◌≡◌, ◌++◌, All, string_bytes, IfEr
 ghost use Rattle.std.specs.List.{flat_map};
 ghost use Rattle.lab_lines.specs.Limits.{IsScript};
 ghost use Rattle.lab_report.specs.Reading.{report_in_text};
-ghost use Rattle.lab_report.specs.Text.{report_text, row_line, segment_line, run_line, played_line, tail_text, IsReportOf, IsRowOf, IsSegmentOf, IsRunOf, IsTailOf};
+ghost use Rattle.lab_report.specs.Text.{report_text, row_line, tail_text, IsReportOf, IsRowOf, IsTailOf};
 
 use crate::ranges::numbers_are_in_range;
 use crate::text::{push_row, push_run, push_segment};
 use lab_lines::{Report, Row, Script};
-use snd_base::{PcmError, Segment};
+use snd_base::PcmError;
 use std::alloc::{AllocError, Global};
 
 /// For how many bytes of each row's line a text of rows has room from the first.
@@ -26,52 +26,21 @@ fn push_rows(text: &mut String, script: &Script, rows: &[Row]) -> Result<(), All
     Ok(())
 }
 
-/// Appends the lines of segments.
-fn push_segments(
-    text: &mut String,
-    script: &Script,
-    segments: &[(u32, Segment)],
-) -> Result<(), AllocError>
-    requires { All (IsSegmentOf script.now) segments.now }
-    ensures { OnOk result
-        (string_bytes text.new ≡ string_bytes text.old
-        ++ flat_map (segment_line script.now) segments.now) }
-{
-    for (client, segment) in segments {
-        push_segment(text, script, *client, segment)?;
-    }
-    Ok(())
-}
-
-/// Appends the lines of runs.
-fn push_runs(text: &mut String, script: &Script, runs: &[(u32, u64, u64)]) -> Result<(), AllocError>
-    requires { All (IsRunOf script.now) runs.now }
-    ensures { OnOk result
-        (string_bytes text.new ≡ string_bytes text.old ++ flat_map (run_line script.now) runs.now) }
-{
-    for (reader, first, count) in runs {
-        push_run(text, script, *reader, *first, *count)?;
-    }
-    Ok(())
-}
-
-/// Appends the line of what was played.
-fn push_played(text: &mut String, first: u64, frames: u64) -> Result<(), AllocError>
-    ensures { OnOk result
-        (string_bytes text.new ≡ string_bytes text.old ++ played_line first frames) }
-{
-    writeln!(text, "played {first} {frames}")
-}
-
 /// Appends what is below the rows.
 fn push_tail(text: &mut String, report: &Report, script: &Script) -> Result<(), AllocError>
     requires { IsTailOf script.now report.now }
     ensures { OnOk result
         (string_bytes text.new ≡ string_bytes text.old ++ tail_text script.now report.now) }
 {
-    push_segments(text, script, report.segments.as_slice())?;
-    push_runs(text, script, report.runs.as_slice())?;
-    push_played(text, report.first, report.frames)?;
+    for (client, segment) in report.segments.as_slice() {
+        push_segment(text, script, *client, segment)?;
+    }
+    for (reader, first, count) in report.runs.as_slice() {
+        push_run(text, script, *reader, *first, *count)?;
+    }
+    let first = report.first;
+    let frames = report.frames;
+    writeln!(text, "played {first} {frames}")?;
     text.push_str("end\n")
 }
 

@@ -1,10 +1,9 @@
 //! The numbers of a report are within their types: a fact for contracts, which each number's type gives where it is read.
-ghost use Rattle.std.specs.Prelude.{All, ℕ, ◌≤◌};
-ghost use Rattle.snd_base.specs.declared.places.Segment.{Segment};
-ghost use Rattle.lab_report.specs.Ranges.{IsAnswerInRange, IsErrorInRange, IsOpInRange, IsReportInRange, IsRowInRange, IsRunInRange, IsSegmentInRange, IsWide, IsWideWhere, IsXrunInRange};
+ghost use Rattle.std.specs.Prelude.{◌≤◌};
+ghost use Rattle.lab_report.specs.Ranges.{IsAnswerInRange, IsErrorInRange, IsOpInRange, IsReportInRange, IsWide, IsWideWhere, IsXrunInRange};
 
-use lab_lines::{Answer, Op, Report, Row};
-use snd_base::{PcmError, Segment, XrunWhy};
+use lab_lines::{Answer, Op, Report};
+use snd_base::{PcmError, XrunWhy};
 
 /// Reads a number.
 fn read_number(number: u64)
@@ -76,54 +75,6 @@ fn read_answer(answer: Answer)
     }
 }
 
-/// Reads a row.
-fn read_row(row: &Row)
-    ensures { IsRowInRange row.now }
-{
-    read_number(u64::from(row.phase));
-    read_op(row.op);
-    read_answer(row.answer);
-    read_seen(row.seen);
-}
-
-/// Reads a segment.
-fn read_segment(segment: &Segment)
-    ensures { IsSegmentInRange segment.now }
-{
-    read_number(segment.source);
-    read_number(segment.card);
-    read_number(segment.whole);
-    read_channels(segment.part);
-}
-
-/// Reads the rows.
-fn read_rows(rows: &[Row])
-    ensures { All IsRowInRange rows.now }
-{
-    for row in rows {
-        read_row(row);
-    }
-}
-
-/// Reads the segments of clients.
-fn read_segments(segments: &[(u32, Segment)])
-    ensures { All (λ (segment : ℕ × Segment). IsSegmentInRange segment.1) segments.now }
-{
-    for pair in segments {
-        read_segment(&pair.1);
-    }
-}
-
-/// Reads the runs of readers.
-fn read_runs(runs: &[(u32, u64, u64)])
-    ensures { All IsRunInRange runs.now }
-{
-    for run in runs {
-        read_number(run.1);
-        read_number(run.2);
-    }
-}
-
 /// The numbers of each report that a program has are within their types, so that its text is read back as
 /// the same report (`print_report`).
 ///
@@ -131,9 +82,22 @@ fn read_runs(runs: &[(u32, u64, u64)])
 pub fn numbers_are_in_range(report: &Report)
     ensures { IsReportInRange report.now }
 {
-    read_rows(report.rows.as_slice());
-    read_segments(report.segments.as_slice());
-    read_runs(report.runs.as_slice());
+    for row in report.rows.as_slice() {
+        read_number(u64::from(row.phase));
+        read_op(row.op);
+        read_answer(row.answer);
+        read_seen(row.seen);
+    }
+    for (_client, segment) in report.segments.as_slice() {
+        read_number(segment.source);
+        read_number(segment.card);
+        read_number(segment.whole);
+        read_channels(segment.part);
+    }
+    for (_reader, first, count) in report.runs.as_slice() {
+        read_number(*first);
+        read_number(*count);
+    }
     read_number(report.first);
     read_number(report.frames);
 }

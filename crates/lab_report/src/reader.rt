@@ -4,7 +4,7 @@ ghost use Rattle.std.specs.Option.{ForSome};
 ghost use Rattle.lab_lines.specs.Limits.{IsActor, IsScript};
 ghost use Rattle.lab_lines.specs.declared.request.Request.{Request};
 ghost use Rattle.lab_report.specs.Causes.{Gives};
-ghost use Rattle.lab_report.specs.Reading.{view, nothing, tail_by, end_line, below_rows, after_head, version_of, head_at, with_line, next_line, report_at, lines_after, report_in_text, Answers};
+ghost use Rattle.lab_report.specs.Reading.{view, nothing, tail_by, below_rows, after_head, version_of, head_at, with_line, report_at, lines_after, report_in_text, Answers};
 ghost use Rattle.lab_report.specs.Words.{lines_of};
 ghost use Rattle.lab_report.specs.Requests.{requests_of};
 ghost use Rattle.lab_report.specs.Text.{report_text, IsReportOf};
@@ -53,17 +53,7 @@ fn add_tail(draft: &mut Draft, script: &Script, word: &[u8], rest: &[u8]) -> Res
     Ok(())
 }
 
-/// The line `end`.
-fn add_end(draft: &mut Draft, line: &[u8]) -> Result<(), ReportWhy>
-    ensures { Gives (λ u. view draft.new) result (end_line (view draft.old) line.now) }
-{
-    let rest = expect_word(b"end", line)?;
-    feed_of(rest)?;
-    draft.ended = true;
-    Ok(())
-}
-
-/// A line below the rows.
+/// A line below the rows: `end` once what was played is read.
 fn add_below(draft: &mut Draft, script: &Script, line: &[u8]) -> Result<(), ReportWhy>
     requires clients { length script.now.clients ≤ 64 }
     requires readers { length script.now.readers ≤ 64 }
@@ -71,7 +61,12 @@ fn add_below(draft: &mut Draft, script: &Script, line: &[u8]) -> Result<(), Repo
         (below_rows script.now (view draft.old) draft.old.played line.now) }
 {
     match draft.played {
-        Some(_) => add_end(draft, line),
+        Some(_) => {
+            let rest = expect_word(b"end", line)?;
+            feed_of(rest)?;
+            draft.ended = true;
+            Ok(())
+        }
         None => {
             let (word, rest) = word_of(line)?;
             add_tail(draft, script, word, rest)
@@ -179,27 +174,6 @@ fn report_at(draft: Draft, number: u32) -> Result<Report, ReportError>
     })
 }
 
-/// The number of the next line, counted up to the greatest number of 32 bits.
-fn next_line(number: u32) -> u32
-    ensures { result ≡ next_line number }
-{
-    number.saturating_add(1)
-}
-
-/// Nothing is read yet.
-fn nothing(alloc: Global) -> Draft
-    ensures { view result ≡ nothing }
-{
-    Draft {
-        head: false,
-        rows: Vec::new(alloc),
-        segments: Vec::new(alloc),
-        runs: Vec::new(alloc),
-        played: None,
-        ended: false,
-    }
-}
-
 /// Reads the lines of a text, where the rows are about these requests.
 fn read_lines(
     alloc: Global,
@@ -213,12 +187,19 @@ fn read_lines(
         (length script.now.readers) r.actor) requests.now }
     ensures { Answers result (lines_after script.now requests.now nothing 0 (lines_of text.now)) }
 {
-    let mut draft = nothing(alloc);
+    let mut draft = Draft {
+        head: false,
+        rows: Vec::new(alloc),
+        segments: Vec::new(alloc),
+        runs: Vec::new(alloc),
+        played: None,
+        ended: false,
+    };
     let mut front = String::new(alloc);
-    let mut number = 0;
+    let mut number: u32 = 0;
     let mut rest = text;
     while let Some((line, more)) = first_line(rest) {
-        number = next_line(number);
+        number = number.saturating_add(1);
         match add_line(&mut front, &mut draft, script, requests, line) {
             Ok(()) => {}
             Err(why) => return Err(ReportError { line: number, why }),

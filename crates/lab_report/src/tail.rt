@@ -74,7 +74,7 @@ fn segment_end(rest: &[u8]) -> Result<Segment, ReportWhy>
 }
 
 /// The client and segment of `segment NAME SOURCE CARD WHOLE PART`, after its first word.
-#[tactic(auto, using(crate::proofs::Ends::segment_at_steps))]
+#[tactic(auto, unfolding(crate::specs::Reading::segment_at))]
 pub fn segment_at(script: &Script, rest: &[u8]) -> Result<(u32, Segment), ReportWhy>
     requires { length script.now.clients ≤ 64 }
     ensures { Gives (λ s. s) result (segment_at script.now rest.now) }
@@ -96,7 +96,7 @@ pub fn played_at(rest: &[u8]) -> Result<(u64, u64), ReportWhy>
 }
 
 /// The reader, the first frame and the number of frames of `run NAME FIRST COUNT`, after its first word.
-#[tactic(auto, using(crate::proofs::Ends::run_at_steps))]
+#[tactic(auto, unfolding(crate::specs::Reading::run_at))]
 pub fn run_at(script: &Script, rest: &[u8]) -> Result<(u32, u64, u64), ReportWhy>
     requires { length script.now.readers ≤ 64 }
     ensures { Gives (λ r. r) result (run_at script.now rest.now) }

@@ -1,12 +1,10 @@
 //! The texts of a report's parts.
-ghost use Rattle.std.specs.Prelude.{◌≡◌, ◌++◌, ◌∷◌, [], ◌<◌, length, string_bytes, OnOk};
-ghost use Rattle.pcm_states.specs.States.{state_name};
+ghost use Rattle.std.specs.Prelude.{◌≡◌, ◌++◌, ◌<◌, length, string_bytes, OnOk};
 ghost use Rattle.lab_lines.specs.Limits.{IsActor};
-ghost use Rattle.lab_report.specs.Text.{client_name, reader_name, actor_name, number_or_dash, xrun_text, error_front, error_rest, error_text, answer_text, front_text, row_line, segment_line, run_line, HasErrorText, HasText, IsRowOf};
+ghost use Rattle.lab_report.specs.Text.{client_name, reader_name, actor_name, number_or_dash, xrun_text, error_front, error_rest, answer_text, front_text, row_line, segment_line, run_line, HasErrorText, HasText, IsRowOf};
 
 use lab_lines::{Actor, Answer, Request, Row, Script};
 use lab_script::push_op;
-use pcm_states::State;
 use snd_base::{PcmError, Segment, XrunWhy};
 use std::alloc::AllocError;
 
@@ -93,17 +91,8 @@ fn push_rest(text: &mut String, error: PcmError) -> Result<(), AllocError>
     }
 }
 
-/// Appends a refusal, by the name of its error number.
+/// Appends an answer. A refusal is the name of its error number, and what is said after it.
 #[tactic(auto, using(crate::proofs::RowLine::error_text_parts))]
-fn push_error(text: &mut String, error: PcmError) -> Result<(), AllocError>
-    requires { HasErrorText error }
-    ensures { OnOk result (string_bytes text.new ≡ string_bytes text.old ++ error_text error) }
-{
-    text.push_str(error_front(error))?;
-    push_rest(text, error)
-}
-
-/// Appends an answer.
 fn push_answer(text: &mut String, answer: Answer) -> Result<(), AllocError>
     requires { HasText answer }
     ensures { OnOk result (string_bytes text.new ≡ string_bytes text.old ++ answer_text answer) }
@@ -111,7 +100,10 @@ fn push_answer(text: &mut String, answer: Answer) -> Result<(), AllocError>
     match answer {
         Answer::Done => text.push_str("ok"),
         Answer::Count(number) => write!(text, "{number}"),
-        Answer::Failed(error) => push_error(text, error),
+        Answer::Failed(error) => {
+            text.push_str(error_front(error))?;
+            push_rest(text, error)
+        }
     }
 }
 
@@ -128,17 +120,6 @@ pub fn push_front(text: &mut String, script: &Script, request: Request) -> Resul
     write!(text, " =")
 }
 
-/// Appends the end of a row's line: the actor's state and the position that it saw.
-fn push_end(text: &mut String, state: State, seen: Option<u64>) -> Result<(), AllocError>
-    ensures { OnOk result
-        (string_bytes text.new ≡ string_bytes text.old
-        ++ 32 ∷ state_name state ++ 32 ∷ number_or_dash seen ++ 10 ∷ []) }
-{
-    write!(text, " {state} ")?;
-    push_number(text, seen)?;
-    writeln!(text)
-}
-
 /// Appends the line of a row.
 pub fn push_row(text: &mut String, script: &Script, row: &Row) -> Result<(), AllocError>
     requires { IsRowOf script.now row.now }
@@ -148,7 +129,10 @@ pub fn push_row(text: &mut String, script: &Script, row: &Row) -> Result<(), All
     push_front(text, script, row.request())?;
     write!(text, " ")?;
     push_answer(text, row.answer)?;
-    push_end(text, row.state, row.seen)
+    let state = row.state;
+    write!(text, " {state} ")?;
+    push_number(text, row.seen)?;
+    writeln!(text)
 }
 
 /// Appends the line of a segment of the client of this number.

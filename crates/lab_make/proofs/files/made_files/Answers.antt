@@ -1,9 +1,8 @@
 -- The generator goes on from file to file.
-use Rattle.lab_make.specs.Prelude.{ap, arith, get_or, length, List, map, refl, subst, sym, ℕ, ◌*◌, ◌∙◌, ◌≡◌, ◌≤◌, get_or-map-range_with_len}
-use Rattle.lab_make.specs.Prelude.{length-map-range_with_len, range_with_len, All, advance_zero, multiplier_64, Sound, after_words, generator_of, IsMadeSound}
-use Rattle.lab_make.specs.Prelude.{made_sound, made_sounds, next_sample}
+use Rattle.lab_make.specs.Prelude.{ap, arith, get_or, length, List, map, subst, sym, ℕ, ◌∙◌, ◌≡◌, ◌≤◌, nat_tests, get_or-map-range_with_len}
+use Rattle.lab_make.specs.Prelude.{length-map-range_with_len, range_with_len, All, advance_zero, multiplier_64, Sound, generator_of, IsMadeSound, made_sound}
+use Rattle.lab_make.specs.Prelude.{made_sounds}
 use Rattle.lab_make.proofs.Generator.{after_words-file, files-push}
-use Rattle.lab_make.proofs.Refused.{IfOk-err}
 use Rattle.lab_make.proofs.files.made_files.Goals as goal
 
 pub loop-client-init : goal.loop-client-init
@@ -19,31 +18,9 @@ loop-client-preserved c = record {
   next = after_words-file _ _ _ _ c.loop-client.invariant.next c.in_ok-made_file.ensures.next;
 }
 
-pub returns-in_err-made_file-clause-files : goal.returns-in_err-made_file-clause-files
-returns-in_err-made_file-clause-files c = IfOk-err _ _ c.from_residual.result c.from_residual.ensures.1
-
-pub returns-in_err-made_file-clause-count : goal.returns-in_err-made_file-clause-count
-returns-in_err-made_file-clause-count c = IfOk-err _ _ c.from_residual.result c.from_residual.ensures.1
-
-pub returns-in_err-made_file-clause-each : goal.returns-in_err-made_file-clause-each
-returns-in_err-made_file-clause-each c = IfOk-err _ _ c.from_residual.result c.from_residual.ensures.1
-
-pub returns-in_err-push-clause-files : goal.returns-in_err-push-clause-files
-returns-in_err-push-clause-files c = IfOk-err _ _ c.from_residual-in_err-push.result c.from_residual-in_err-push.ensures.1
-
-pub returns-in_err-push-clause-count : goal.returns-in_err-push-clause-count
-returns-in_err-push-clause-count c = IfOk-err _ _ c.from_residual-in_err-push.result c.from_residual-in_err-push.ensures.1
-
-pub returns-in_err-push-clause-each : goal.returns-in_err-push-clause-each
-returns-in_err-push-clause-each c = IfOk-err _ _ c.from_residual-in_err-push.result c.from_residual-in_err-push.ensures.1
-
 -- each file has as many samples as words are drawn for it
 made_sound-is : (seed client : ℕ) → IsMadeSound (made_sound seed client)
-made_sound-is seed client = record {
-  stereo = refl;
-  rate_is = refl;
-  size = length-map-range_with_len (λ index. next_sample (after_words index (after_words (8192 * client) (generator_of seed)))) 0 8192;
-}
+made_sound-is seed client = grind (arith, nat_tests)
 
 made_sounds-each : (seed clients : ℕ) → All IsMadeSound (made_sounds seed clients)
 made_sounds-each seed clients k d h =
@@ -54,9 +31,7 @@ made_sounds-each seed clients k d h =
 
 -- after the last client there are the files of all
 made_sounds-all : (seed i clients : ℕ) (files : List Sound) → files ≡ map (made_sound seed) (range_with_len 0 i) → i ≤ clients → clients ≤ i → files ≡ made_sounds seed clients
-made_sounds-all seed i clients files before most least =
-    let all : i ≡ clients = omega arith in
-    before ∙ ap (λ n. map (made_sound seed) (range_with_len 0 n)) all
+made_sounds-all seed i clients files before most least = grind (arith, nat_tests)
 
 pub returns-clause-count : goal.returns-clause-count
 returns-clause-count c =

@@ -3,23 +3,10 @@ use Rattle.lab_make.specs.Prelude.{ap, arith, FitsSigned, map, rules, sym, [], �
 use Rattle.lab_make.specs.Prelude.{after_words, next_sample}
 use Rattle.std.specs.Int.{w16}
 use Rattle.lab_make.proofs.Generator.{after_words-next, samples-push}
-use Rattle.lab_make.proofs.Refused.{IfOk-err}
 use Rattle.lab_make.proofs.files.made_samples.Goals as goal
 
 pub loop-index-init : goal.loop-index-init
 loop-index-init c = record { samples = c.in_ok-samples.ensures.items; next = sym (advance_zero 64 multiplier_64 c.args.generator.now) }
-
-pub returns-in_err-samples-clause-samples : goal.returns-in_err-samples-clause-samples
-returns-in_err-samples-clause-samples c = IfOk-err _ _ c.from_residual.result c.from_residual.ensures.1
-
-pub returns-in_err-samples-clause-next : goal.returns-in_err-samples-clause-next
-returns-in_err-samples-clause-next c = IfOk-err _ _ c.from_residual.result c.from_residual.ensures.1
-
-pub returns-in_err-push-clause-samples : goal.returns-in_err-push-clause-samples
-returns-in_err-push-clause-samples c = IfOk-err _ _ c.from_residual-in_err-push.result c.from_residual-in_err-push.ensures.1
-
-pub returns-in_err-push-clause-next : goal.returns-in_err-push-clause-next
-returns-in_err-push-clause-next c = IfOk-err _ _ c.from_residual-in_err-push.result c.from_residual-in_err-push.ensures.1
 
 pub loop-index-preserved : goal.loop-index-preserved
 loop-index-preserved c =
@@ -31,12 +18,10 @@ loop-index-preserved c =
       next = after_words-next _ _ _ _ c.loop-index.invariant.next c.next_sample.ensures.next;
     }
 
-pub returns-clause-samples : goal.returns-clause-samples
-returns-clause-samples c =
+pub returns : goal.returns
+returns c =
     let last : c.loop-index.index ≡ 8192 = omega (arith, c.loop-index-test.false, c.loop-index.auto.index-end) in
-    c.loop-index.invariant.samples ∙ ap (λ n. map (λ index. next_sample (after_words index c.args.generator.now)) (range_with_len 0 n)) last
-
-pub returns-clause-next : goal.returns-clause-next
-returns-clause-next c =
-    let last : c.loop-index.index ≡ 8192 = omega (arith, c.loop-index-test.false, c.loop-index.auto.index-end) in
-    c.loop-index.invariant.next ∙ ap (λ n. after_words n c.args.generator.now) last
+    record {
+      samples = c.loop-index.invariant.samples ∙ ap (λ n. map (λ index. next_sample (after_words index c.args.generator.now)) (range_with_len 0 n)) last;
+      next = c.loop-index.invariant.next ∙ ap (λ n. after_words n c.args.generator.now) last;
+    }

@@ -1,36 +1,6 @@
 -- What the two parts are, and where one of them isn't made.
 use Rattle.lab_make.specs.Prelude.{◌∙◌, err_from_is_err_and}
-use Rattle.lab_make.proofs.Refused.{IfOk-err}
 use Rattle.lab_make.proofs.input.make.Goals as goal
-
-pub returns-in_err-made_text-clause-script : goal.returns-in_err-made_text-clause-script
-returns-in_err-made_text-clause-script c = IfOk-err _ _ c.from_residual.result c.from_residual.ensures.1
-
-pub returns-in_err-made_text-clause-wavs : goal.returns-in_err-made_text-clause-wavs
-returns-in_err-made_text-clause-wavs c = IfOk-err _ _ c.from_residual.result c.from_residual.ensures.1
-
-pub returns-in_err-made_text-clause-count : goal.returns-in_err-made_text-clause-count
-returns-in_err-made_text-clause-count c = IfOk-err _ _ c.from_residual.result c.from_residual.ensures.1
-
-pub returns-in_err-made_text-clause-each : goal.returns-in_err-made_text-clause-each
-returns-in_err-made_text-clause-each c = IfOk-err _ _ c.from_residual.result c.from_residual.ensures.1
-
-pub returns-in_err-made_text-clause-only : goal.returns-in_err-made_text-clause-only
-returns-in_err-made_text-clause-only c =
-    let p = err_from_is_err_and c.from_residual.result c.from_residual.ensures.1 in
-    rw p.1 p.2
-
-pub returns-in_err-wavs-clause-script : goal.returns-in_err-wavs-clause-script
-returns-in_err-wavs-clause-script c = IfOk-err _ _ c.from_residual-in_err-wavs.result c.from_residual-in_err-wavs.ensures.1
-
-pub returns-in_err-wavs-clause-wavs : goal.returns-in_err-wavs-clause-wavs
-returns-in_err-wavs-clause-wavs c = IfOk-err _ _ c.from_residual-in_err-wavs.result c.from_residual-in_err-wavs.ensures.1
-
-pub returns-in_err-wavs-clause-count : goal.returns-in_err-wavs-clause-count
-returns-in_err-wavs-clause-count c = IfOk-err _ _ c.from_residual-in_err-wavs.result c.from_residual-in_err-wavs.ensures.1
-
-pub returns-in_err-wavs-clause-each : goal.returns-in_err-wavs-clause-each
-returns-in_err-wavs-clause-each c = IfOk-err _ _ c.from_residual-in_err-wavs.result c.from_residual-in_err-wavs.ensures.1
 
 pub returns-in_err-wavs-clause-only : goal.returns-in_err-wavs-clause-only
 returns-in_err-wavs-clause-only c =

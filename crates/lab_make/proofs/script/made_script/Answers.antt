@@ -1,8 +1,7 @@
 -- The text is read as its script, so that the reader refuses it for want of memory alone.
-use Rattle.lab_make.specs.Prelude.{ap, length, List, Ok, refl, sym, ℕ, ◌∙◌, ◌≡◌, ◌≤◌, length-map-range_with_len, Err, Result, Script, ScriptError, RefusesAt}
-use Rattle.lab_make.specs.Prelude.{script_of, made_text, made_client, made_script}
+use Rattle.lab_make.specs.Prelude.{ap, arith, length, List, Ok, sym, ℕ, ◌∙◌, ◌≡◌, ◌≤◌, nat_tests, length-map-range_with_len, Err, Result, Script, ScriptError}
+use Rattle.lab_make.specs.Prelude.{RefusesAt, script_of, made_text, made_client, made_script}
 use Rattle.lab_script.specs.declared.error.ScriptWhy.{ScriptWhy}
-use Rattle.lab_make.proofs.Refused.{IfOk-err}
 use Rattle.lab_make.proofs.Turns.{script_of-made_text}
 use Rattle.lab_script.specs.declared.error.ScriptWhy.TheVariants as why
 use Rattle.lab_make.proofs.script.made_script.Goals as goal
@@ -14,11 +13,7 @@ script_or other (Err error) = other
 
 -- a text that is a script isn't refused but for want of memory
 accepted : (cause : ScriptWhy) (error : ScriptError) (said : Result Script ScriptError) (script : Script) → said ≡ Ok script → (cause ≡ why.Memory → ⊥) → RefusesAt cause error said → ⊥
-accepted why.Memory error said script is other refused = other refl
-accepted cause error said script is other refused = no_error (sym is ∙ refused)
-  where
-    no_error : Ok script ≡ Err error → ⊥
-    no_error e = cc
+accepted cause error said script is other refused = grind (arith, nat_tests)
 
 -- the text spells the script
 spelled : (clients turns : ℕ) (bytes text : List ℕ) → bytes ≡ text → text ≡ made_text clients turns → clients ≤ 64 → turns ≤ 1000 → script_of bytes ≡ Ok (made_script clients turns)
@@ -42,15 +37,3 @@ unreachable-requires c =
     accepted c.in-Err.error.why c.in-Err.error _ _
     (spelled c.args.clients c.args.turns _ _ c.as_bytes.ensures.value c.in_ok-text.ensures c.requires.clients c.requires.turns)
     c.in_default.not-Memory c.in-Err.ensures.exact
-
-pub returns-in_err-text-clause-script : goal.returns-in_err-text-clause-script
-returns-in_err-text-clause-script c = IfOk-err _ _ c.from_residual.result c.from_residual.ensures.1
-
-pub returns-in_err-text-clause-read : goal.returns-in_err-text-clause-read
-returns-in_err-text-clause-read c = IfOk-err _ _ c.from_residual.result c.from_residual.ensures.1
-
-pub returns-in_err-text-clause-valid : goal.returns-in_err-text-clause-valid
-returns-in_err-text-clause-valid c = IfOk-err _ _ c.from_residual.result c.from_residual.ensures.1
-
-pub returns-in_err-text-clause-count : goal.returns-in_err-text-clause-count
-returns-in_err-text-clause-count c = IfOk-err _ _ c.from_residual.result c.from_residual.ensures.1

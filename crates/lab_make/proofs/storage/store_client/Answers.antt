@@ -21,37 +21,25 @@ returns-clause-stored g c =
     (subst (λ (bytes : List ℕ). after ≡ option_map (λ files. with_file files c.as_bytes.result.now bytes) before) (c.deref.ensures.value ∙ c.in_ok-bytes.ensures.bytes) stored))
     c.store.ensures.stored
 
-pub returns-in_err-name-clause-stored : goal.returns-in_err-name-clause-stored
-returns-in_err-name-clause-stored g c = OnOk-memory _ _ (Err-memory Memory c.from_residual.result c.from_residual.ensures.1 refl)
+pub returns-in_err-name : goal.returns-in_err-name
+returns-in_err-name g c = record {
+  stored = OnOk-memory _ _ (Err-memory Memory c.from_residual.result c.from_residual.ensures.1 refl);
+  read = OnOk-memory _ _ (Err-memory Memory c.from_residual.result c.from_residual.ensures.1 refl);
+  part = OnErr-memory _ _ _ _ (Err-memory Memory c.from_residual.result c.from_residual.ensures.1 refl);
+  only_writes = OnlyWrites-memory g.S.Shelf c.from_residual.result _ c.from_residual.ensures.1;
+  never = λ reliable. memory-no_write _ (Err-memory Memory c.from_residual.result c.from_residual.ensures.1 refl);
+}
 
-pub returns-in_err-name-clause-read : goal.returns-in_err-name-clause-read
-returns-in_err-name-clause-read g c = OnOk-memory _ _ (Err-memory Memory c.from_residual.result c.from_residual.ensures.1 refl)
-
-pub returns-in_err-name-clause-part : goal.returns-in_err-name-clause-part
-returns-in_err-name-clause-part g c = OnErr-memory _ _ _ _ (Err-memory Memory c.from_residual.result c.from_residual.ensures.1 refl)
-
-pub returns-in_err-bytes-clause-stored : goal.returns-in_err-bytes-clause-stored
-returns-in_err-bytes-clause-stored g c = OnOk-memory _ _ (Err-memory _ c.from_residual-in_err-bytes.result c.from_residual-in_err-bytes.ensures.1 c.in_err-bytes.ensures.only)
-
-pub returns-in_err-bytes-clause-read : goal.returns-in_err-bytes-clause-read
-returns-in_err-bytes-clause-read g c = OnOk-memory _ _ (Err-memory _ c.from_residual-in_err-bytes.result c.from_residual-in_err-bytes.ensures.1 c.in_err-bytes.ensures.only)
-
-pub returns-in_err-bytes-clause-part : goal.returns-in_err-bytes-clause-part
-returns-in_err-bytes-clause-part g c = OnErr-memory _ _ _ _ (Err-memory _ c.from_residual-in_err-bytes.result c.from_residual-in_err-bytes.ensures.1 c.in_err-bytes.ensures.only)
-
-pub returns-in_err-name-clause-never : goal.returns-in_err-name-clause-never
-returns-in_err-name-clause-never g c reliable = memory-no_write _ (Err-memory Memory c.from_residual.result c.from_residual.ensures.1 refl)
-
-pub returns-in_err-bytes-clause-never : goal.returns-in_err-bytes-clause-never
-returns-in_err-bytes-clause-never g c reliable = memory-no_write _ (Err-memory _ c.from_residual-in_err-bytes.result c.from_residual-in_err-bytes.ensures.1 c.in_err-bytes.ensures.only)
-
-pub returns-in_err-name-clause-only_writes : goal.returns-in_err-name-clause-only_writes
-returns-in_err-name-clause-only_writes g c = OnlyWrites-memory g.S.Shelf c.from_residual.result _ c.from_residual.ensures.1
-
-pub returns-in_err-bytes-clause-only_writes : goal.returns-in_err-bytes-clause-only_writes
-returns-in_err-bytes-clause-only_writes g c =
-    OnlyWrites-passed g.S.Shelf c.from_residual-in_err-bytes.result c.in_err-bytes.field-0.0 _ _ c.from_residual-in_err-bytes.ensures.1
-    (OnlyWrites-nothing {X = Unit {0}} g.S.Shelf (Err c.in_err-bytes.field-0.0) _ c.in_err-bytes.ensures.only)
+pub returns-in_err-bytes : goal.returns-in_err-bytes
+returns-in_err-bytes g c = record {
+  stored = OnOk-memory _ _ (Err-memory _ c.from_residual-in_err-bytes.result c.from_residual-in_err-bytes.ensures.1 c.in_err-bytes.ensures.only);
+  read = OnOk-memory _ _ (Err-memory _ c.from_residual-in_err-bytes.result c.from_residual-in_err-bytes.ensures.1 c.in_err-bytes.ensures.only);
+  part = OnErr-memory _ _ _ _ (Err-memory _ c.from_residual-in_err-bytes.result c.from_residual-in_err-bytes.ensures.1 c.in_err-bytes.ensures.only);
+  only_writes =
+      OnlyWrites-passed g.S.Shelf c.from_residual-in_err-bytes.result c.in_err-bytes.field-0.0 _ _ c.from_residual-in_err-bytes.ensures.1
+      (OnlyWrites-nothing {X = Unit {0}} g.S.Shelf (Err c.in_err-bytes.field-0.0) _ c.in_err-bytes.ensures.only);
+  never = λ reliable. memory-no_write _ (Err-memory _ c.from_residual-in_err-bytes.result c.from_residual-in_err-bytes.ensures.1 c.in_err-bytes.ensures.only);
+}
 
 pub returns-clause-only_writes : goal.returns-clause-only_writes
 returns-clause-only_writes g c = c.store.ensures.only_writes

@@ -11,38 +11,27 @@ loop-client-preserved g c =
     Storing-next g.S.Shelf _ _ _ _ _ c.index-wavs-client.result c.loop-client.invariant c.loop-client-test.true c.index-wavs-client.is
     c.in_ok-store_client.ensures.stored c.in_ok-store_client.ensures.read (CountsNoFault-writes g.S.Shelf _ _ _ c.in_ok-store_client.ensures.only_writes)
 
-pub returns-in_err-store_client-clause-part : goal.returns-in_err-store_client-clause-part
-returns-in_err-store_client-clause-part g c =
+pub returns-in_err-store_client : goal.returns-in_err-store_client
+returns-in_err-store_client g c =
     let p = err_from_is_err_and c.from_residual.result c.from_residual.ensures.1 in
-    rw p.1
-    (Storing-stop g.S.Shelf _ _ _ _ _ c.index-wavs-client.result c.loop-client.invariant c.loop-client-test.true c.index-wavs-client.is
-    c.in_err-store_client.ensures.part)
-
-pub returns-in_err-store_client-clause-stored : goal.returns-in_err-store_client-clause-stored
-returns-in_err-store_client-clause-stored g c =
-    let p = err_from_is_err_and c.from_residual.result c.from_residual.ensures.1 in
-    rw p.1 tt
-
-pub returns-in_err-store_client-clause-read : goal.returns-in_err-store_client-clause-read
-returns-in_err-store_client-clause-read g c =
-    let p = err_from_is_err_and c.from_residual.result c.from_residual.ensures.1 in
-    rw p.1 tt
-
-pub returns-in_err-store_client-clause-never : goal.returns-in_err-store_client-clause-never
-returns-in_err-store_client-clause-never g c reliable =
-    let p = err_from_is_err_and c.from_residual.result c.from_residual.ensures.1 in
-    rw (p.1, p.2) (c.in_err-store_client.ensures.never (c.loop-client.invariant.counts.reliable reliable))
+    record {
+      stored = rw p.1 tt;
+      read = rw p.1 tt;
+      part =
+          rw p.1
+          (Storing-stop g.S.Shelf _ _ _ _ _ c.index-wavs-client.result c.loop-client.invariant c.loop-client-test.true c.index-wavs-client.is
+          c.in_err-store_client.ensures.part);
+      only_writes =
+          OnlyWrites-passed g.S.Shelf c.from_residual.result c.in_err-store_client.field-0.0 _ _ c.from_residual.ensures.1
+          (OnlyWrites-after g.S.Shelf _ _ _ _ c.loop-client.invariant.counts c.in_err-store_client.ensures.only_writes);
+      never = λ reliable. rw (p.1, p.2) (c.in_err-store_client.ensures.never (c.loop-client.invariant.counts.reliable reliable));
+    }
 
 pub returns-clause-stored : goal.returns-clause-stored
 returns-clause-stored g c = Storing-all g.S.Shelf _ _ _ _ c.loop-client.invariant c.loop-client-test.false
 
 pub returns-clause-read : goal.returns-clause-read
 returns-clause-read g c = Storing-read g.S.Shelf _ _ _ _ c.loop-client.invariant c.loop-client-test.false
-
-pub returns-in_err-store_client-clause-only_writes : goal.returns-in_err-store_client-clause-only_writes
-returns-in_err-store_client-clause-only_writes g c =
-    OnlyWrites-passed g.S.Shelf c.from_residual.result c.in_err-store_client.field-0.0 _ _ c.from_residual.ensures.1
-    (OnlyWrites-after g.S.Shelf _ _ _ _ c.loop-client.invariant.counts c.in_err-store_client.ensures.only_writes)
 
 pub returns-clause-only_writes : goal.returns-clause-only_writes
 returns-clause-only_writes g c = OnlyWrites-done g.S.Shelf _ _ _ c.loop-client.invariant.counts

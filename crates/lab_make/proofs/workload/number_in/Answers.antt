@@ -10,5 +10,5 @@ returns-in_err-value-clause-value c =
 
 pub returns-clause-value : goal.returns-clause-value
 returns-clause-value c =
-    c.within.ensures
+    c.number_between.ensures
     ∙ number_in-value c.args.least c.args.most c.in_ok-value.value c.args.word.now (sym c.is_numeral.ensures ∙ c.if-not-is_numeral.false) c.in_ok-value.ensures

@@ -1,7 +1,0 @@
--- One line more.
-use Rattle.lab_make.proofs.Appended.{lines_text-push}
-use Rattle.lab_make.specs.Lines.{client_words}
-use Rattle.lab_make.proofs.text.push_clients.Goals as goal
-
-pub loop-client-preserved : goal.loop-client-preserved
-loop-client-preserved c = lines_text-push client_words _ _ _ _ c.loop-client.invariant c.in_ok-push_client.ensures

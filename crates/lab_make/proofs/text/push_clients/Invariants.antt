@@ -1,7 +1,0 @@
--- The lines so far are those of the first clients.
-use Rattle.lab_make.specs.Prelude.{map, string_bytes, ◌++◌, ◌≡◌, range_with_len, lines_text, client_words}
-use Rattle.lab_make.proofs.text.push_clients.Given as goal
-
-abbrev pub invariant-loop-client : goal.invariant-loop-client
-invariant-loop-client l =
-    string_bytes l.text ≡ string_bytes l.fn.text ++ lines_text (map client_words (range_with_len 0 l.client))
