@@ -1,7 +1,7 @@
 -- A segment is added to the sums of a window of frames.
-use Rattle.lab_check.specs.Prelude.{ap, arith, inl, inr, length, List, mul-le-mul, refl, subst, sym, take, ℕ, [], ◌%◌, ◌*◌, ◌++◌, ◌+◌, ◌-◌, ◌/◌, ◌<◌, ◌∙◌, ◌∷◌}
-use Rattle.lab_check.specs.Prelude.{◌≡◌, ◌≤◌, ◌⊎◌, div-lt_iff_lt-mul, nat_tests, append-nil, flat_map, range_with_len, Bool, false, if◌then◌else◌, map, min}
-use Rattle.lab_check.specs.Prelude.{nat_eq, nat_lt, suc, zero, ℤ, rising, Entry, frame_entries, sample_at, IsSummed}
+use Rattle.lab_check.specs.Prelude.{ap, arith, inl, inr, length, List, refl, subst, sym, take, ℕ, [], ◌%◌, ◌*◌, ◌++◌, ◌+◌, ◌-◌, ◌/◌, ◌<◌, ◌∙◌, ◌∷◌, ◌≡◌, ◌≤◌}
+use Rattle.lab_check.specs.Prelude.{◌⊎◌, div-lt_iff_lt-mul, nat_tests, append-nil, flat_map, range_with_len, Bool, false, if◌then◌else◌, map, min, nat_eq}
+use Rattle.lab_check.specs.Prelude.{nat_lt, suc, zero, ℤ, rising, Entry, frame_entries, sample_at, IsSummed}
 use Rattle.lab_check.proofs.Covers.{entry_at}
 use Rattle.lab_check.proofs.Summing.{frame_of_segment, of, of-append, outside, summed-both, summed-none, whole_frame, whole-same}
 
@@ -94,8 +94,4 @@ pub places-of : (whole part all j : ℕ) (b : Bool) → nat_lt j whole ≡ b →
 places-of whole part all j b is = ap (λ t. if t then all else part) is
 
 pub samples-fit : (source j taken count size samples : ℕ) → j < taken → count ≡ size → (source + taken) * size ≤ samples → (source + j) * count + size ≤ samples
-samples-fit source j taken count size samples low same most =
-    let product : suc (source + j) * size ≤ (source + taken) * size = mul-le-mul {n₁ = suc (source + j)} {m₁ = size} {n₂ = source + taken} {m₂ = size} (omega (arith, low)) (omega arith) in
-    let step : suc (source + j) * size ≡ (source + j) * size + size = omega arith in
-    let at : (source + j) * count ≡ (source + j) * size = ap (λ n. (source + j) * n) same in
-    omega (arith, product, step, at, most)
+samples-fit source j taken count size samples low same most = grind (arith, nat_tests)

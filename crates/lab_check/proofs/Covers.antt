@@ -1,9 +1,9 @@
 -- The frames and channels at which a segment has a sample, by its numbers.
-use Rattle.lab_check.specs.Prelude.{ap, arith, drop, length, List, None, refl, Some, subst, sym, take, ℕ, [], ◌+◌, ◌-◌, ◌<◌, ◌==◌, ◌∙◌, ◌∷◌, ◌≡◌, ◌≤◌}
-use Rattle.lab_check.specs.Prelude.{and-false, eq-eqb, ne_eqb, nat_tests, drop_more, list_any-append, flat_map, list_any, range_with_len, Bool, false}
-use Rattle.lab_check.specs.Prelude.{if◌then◌else◌, map, nat_eq, nat_le, nat_lt, slice_get, slice_index, suc, true, zero, ℤ, ◌&&◌, ◌||◌, Segment, rising, Entry}
-use Rattle.lab_check.specs.Prelude.{Added, is_at, expand, frame_entries, sample_at, Sound, ClientLine, Script, bound_by, last_on, reaches_channel}
-use Rattle.lab_check.specs.Prelude.{reaches_frame, covers, has_sample}
+use Rattle.lab_check.specs.Prelude.{ap, arith, drop, length, length-take, List, None, refl, Some, subst, sym, take, ℕ, [], ◌+◌, ◌-◌, ◌<◌, ◌==◌, ◌∙◌, ◌∷◌, ◌≡◌}
+use Rattle.lab_check.specs.Prelude.{◌≤◌, and-false, eq-eqb, nat_tests, drop_more, get_or-take, take-append-drop, take-take, list_any-append, flat_map, list_any}
+use Rattle.lab_check.specs.Prelude.{range_with_len, Bool, false, if◌then◌else◌, map, nat_eq, nat_le, nat_lt, slice_get, slice_index, suc, true, zero, ℤ, ◌&&◌}
+use Rattle.lab_check.specs.Prelude.{◌||◌, Segment, rising, Entry, Added, is_at, expand, frame_entries, sample_at, Sound, ClientLine, Script, bound_by, last_on}
+use Rattle.lab_check.specs.Prelude.{reaches_channel, reaches_frame, covers, has_sample}
 
 -- a part of both of two tests
 and-or : (t a b : Bool) → ((t && a) || (t && b)) ≡ (t && (a || b))
@@ -11,11 +11,7 @@ and-or true a b = refl
 and-or false a b = refl
 
 or-and : (t u a : Bool) → ((t && a) || (u && a)) ≡ ((t || u) && a)
-or-and true true true = refl
-or-and true true false = refl
-or-and true false true = refl
-or-and true false false = refl
-or-and false u a = refl
+or-and t u a = grind (arith, nat_tests)
 
 -- ---- a frame and the whole frames behind it
 
@@ -29,9 +25,6 @@ module _ (member : ℕ) (bindings : List ℕ) (frame channel : ℕ) where
   in-frame sample_of card [] = sym (and-false (card == frame))
   in-frame sample_of card (q ∷ qs) = ap (λ b. ((card == frame) && (slice_index bindings q == channel)) || b) (in-frame sample_of card qs)
       ∙ and-or (card == frame) (slice_index bindings q == channel) (list_any (λ q. slice_index bindings q == channel) qs)
-
-  pub other-frame : (sample_of : ℕ → ℤ) (card : ℕ) (qs : List ℕ) → (card == frame) ≡ false → list_any (is_at frame channel) (map (entry_at sample_of card) qs) ≡ false
-  other-frame sample_of card qs is = in-frame sample_of card qs ∙ ap (λ b. b && list_any (λ q. slice_index bindings q == channel) qs) is
 
   module _ (sample_of : ℕ → ℕ → ℤ) (card : ℕ) where
     abbrev pub frames_from : ℕ → ℕ → List Entry
@@ -58,26 +51,15 @@ module _ (member : ℕ) (bindings : List ℕ) (frame channel : ℕ) where
 
 -- the first places of a list have what fewer of them have
 kept : (test : ℕ → Bool) (m n : ℕ) (xs : List ℕ) → m ≤ n → list_any test (take m xs) ≡ true → list_any test (take n xs) ≡ true
-kept test zero n [] low is = absurd cc
-kept test zero n (x ∷ xs) low is = absurd cc
-kept test (suc m) zero xs low is = absurd (omega (arith, low))
-kept test (suc m) (suc n) [] low is = absurd cc
-kept test (suc m) (suc n) (x ∷ xs) low is = by_test (λ rest. kept test m n xs (omega (arith, low)) rest) (test x) is
-  where
-    by_test : (list_any test (take m xs) ≡ true → list_any test (take n xs) ≡ true) → (b : Bool) → (b || list_any test (take m xs)) ≡ true → (b || list_any test (take n xs)) ≡ true
-    by_test others true here = refl
-    by_test others false here = others here
+kept test m n xs low is =
+    ap (list_any test) (sym (take-append-drop m (take n xs))) ∙ list_any-append test (take m (take n xs)) (drop m (take n xs))
+    ∙ ap (λ b. b || list_any test (drop m (take n xs))) (ap (list_any test) (take-take m n xs low) ∙ is)
 
 -- whole frames in which a channel is bound, and a part in which it is only where it's bound, end at the last frame that has a sample
 in-reach : (first whole frame : ℕ) (all part : Bool) → (part ≡ true → all ≡ true)
     → (((nat_le (first + 0) frame && nat_lt frame (first + (0 + whole))) && all) || ((first + (0 + whole) == frame) && part))
     ≡ reaches_frame first (if part then Some whole else (if nat_lt 0 whole && all then Some (whole - 1) else None)) frame
-in-reach first whole frame true true bound = grind (arith, nat_tests)
-in-reach first whole frame false true bound = absurd (let wrong : false ≡ true = bound refl in cc)
-in-reach first zero frame true false bound = grind (arith, nat_tests)
-in-reach first (suc more) frame true false bound = grind (arith, nat_tests)
-in-reach first zero frame false false bound = grind (arith, nat_tests)
-in-reach first (suc more) frame false false bound = grind (arith, nat_tests)
+in-reach first whole frame all part bound = grind (arith, nat_tests)
 
 segment-covers : (number : ℕ) (segment : Segment) (samples : List ℤ) (bindings : List ℕ) (frame channel : ℕ) → segment.part ≤ length bindings
     → has_sample (expand number segment samples bindings) frame channel ≡ reaches_frame segment.card (last_on bindings segment channel) frame
@@ -112,14 +94,13 @@ covers-source script wavs number frame channel client segment line wav same line
 -- and of another client
 pub covers-other : (script : Script) (wavs : List Sound) (number frame channel client : ℕ) (segment : Segment) → (client ≡ number → ⊥)
     → covers script wavs number frame channel (client, segment) ≡ false
-covers-other script wavs number frame channel client segment other =
-    let test : nat_eq client number ≡ false = ne_eqb client number other in
-    rw test refl
+covers-other script wavs number frame channel client segment other = grind (arith, nat_tests)
 
 -- ---- a search among places
 
-pub any-here : (p : ℕ → Bool) (xs : List ℕ) (k : ℕ) → k < length xs → p (slice_index xs k) ≡ true → list_any p (drop k xs) ≡ true
-any-here p xs k low is = rw (drop_more xs k 0 low) (rw is refl)
-
-pub any-next : (p : ℕ → Bool) (xs : List ℕ) (k : ℕ) → k < length xs → p (slice_index xs k) ≡ false → list_any p (drop k xs) ≡ list_any p (drop (k + 1) xs)
-any-next p xs k low is = rw (drop_more xs k 0 low) (rw is refl)
+-- among the first ones of a list, by the test of the next
+pub any-next : (p : ℕ → Bool) (n k q : ℕ) (xs : List ℕ) → k < n → n ≤ length xs → q ≡ slice_index xs k → (b : Bool) → p q ≡ b
+    → list_any p (drop k (take n xs)) ≡ (b || list_any p (drop (k + 1) (take n xs)))
+any-next p n k q xs low few is b test =
+    let size : k < length (take n xs) = rw (length-take n xs) (omega (arith, low, few)) in
+    rw (drop_more (take n xs) k 0 size) (ap (λ t. t || list_any p (drop (k + 1) (take n xs))) (ap p (get_or-take n xs k 0 low ∙ sym is) ∙ test))

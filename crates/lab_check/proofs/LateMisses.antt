@@ -1,14 +1,14 @@
 -- A late row of a report that passes names a place without a sample of its client, or, of a rewind, with one.
-use Rattle.lab_check.specs.Prelude.{ap, List, refl, Some, subst, sym, ℕ, [], ◌∙◌, ◌∷◌, ◌≡◌, ◌≢◌, and_parts, ltb-true, not-true, list_any-append, AllByRecursion}
-use Rattle.lab_check.specs.Prelude.{flat_map, list_any, Bool, false, filter, if◌then◌else◌, map, nat_eq, nat_lt, not, true, ◌&&◌, ◌||◌, Segment, Entry, at}
-use Rattle.lab_check.specs.Prelude.{is_at, value_of, Sound, Report, Row, Script, segments_by, covers, entries_of_segment, has_sample, is_covered}
-use Rattle.lab_check.specs.Prelude.{is_right_place, is_right_row, late_place, ShowsLate}
+use Rattle.lab_check.specs.Prelude.{ap, List, refl, Some, subst, sym, ℕ, [], ◌∙◌, ◌∷◌, ◌≡◌, ◌≢◌, and_parts, ltb-true, not-true, list_any-append, flat_map}
+use Rattle.lab_check.specs.Prelude.{list_any, Bool, false, filter, if◌then◌else◌, map, nat_eq, nat_lt, not, true, ◌&&◌, ◌||◌, Segment, Entry, at, is_at}
+use Rattle.lab_check.specs.Prelude.{value_of, Sound, Report, Row, Script, segments_by, covers, entries_of_segment, has_sample, is_covered, is_right_place}
+use Rattle.lab_check.specs.Prelude.{is_right_row, late_place, ShowsLate}
 use Rattle.lab_lines.specs.declared.row.Answer.{Answer}
 use Rattle.run_laws.specs.Late.{IsLate}
 use Rattle.run_laws.specs.LateRows.{is_rewind}
 
 -- no entry is at a place
-pub none-at : (es : List Entry) (frame channel : ℕ) → has_sample es frame channel ≡ false → at es frame channel ≡ []
+none-at : (es : List Entry) (frame channel : ℕ) → has_sample es frame channel ≡ false → at es frame channel ≡ []
 none-at [] frame channel is = refl
 none-at (e ∷ es) frame channel is = by_test (λ free. none-at es frame channel free) (is_at frame channel e) is
   where
@@ -75,8 +75,3 @@ module _ (script : Script) (wavs : List Sound) (report : Report) (row : Row) (ri
         covered script wavs number frame channel report.segments
         (subst (λ a. is_covered script wavs report a frame channel ≡ true) of held);
   }
-
-pub rows-show : (script : Script) (wavs : List Sound) (report : Report) (rows : List Row) → AllByRecursion (λ row. is_right_row script wavs report row ≡ true) rows
-    → AllByRecursion (ShowsLate script wavs report) rows
-rows-show script wavs report [] are = tt
-rows-show script wavs report (row ∷ rows) are = (row-shows script wavs report row are.0, rows-show script wavs report rows are.1)

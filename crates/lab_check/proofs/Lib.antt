@@ -10,7 +10,6 @@ pub mod LateMisses
 pub mod Parts
 pub mod ReaderRuns
 pub mod ReaderSamples
-pub mod RunChecks
 pub mod RunPasses
 pub mod RunReads
 pub mod Saturated

@@ -1,9 +1,11 @@
 -- What is known of a segment that can be: where its client's channels go, and that its samples are there.
 use Rattle.lab_check.specs.Prelude.{ap, arith, get_or, length, List, mul-le-mul, None, Option, refl, Some, subst, sym, take, ℕ, [], ◌*◌, ◌++◌, ◌+◌, ◌<◌, ◌∙◌}
-use Rattle.lab_check.specs.Prelude.{◌∷◌, ◌≡◌, ◌≤◌, div-mul-le_self, and_parts, eqb-true, leb-true, ltb-true, flat_map-append, append-nil, take_more, All-get_or}
-use Rattle.lab_check.specs.Prelude.{get_or-range_with_len, length-range_with_len, get_or_from_slice_get, slice_get_within, slice_get, slice_index, true, ℤ}
-use Rattle.lab_check.specs.Prelude.{Segment, All-below-answered, identity, Entry, expand, Sound, ClientLine, Script, IsBoundWhere, IsClientLine, IsScript}
-use Rattle.lab_check.specs.Prelude.{frames_of, bound_by, entries_of_segment, frames_taken, is_bound, is_right_segment, is_within, entries_of_segments, IsSummed}
+use Rattle.lab_check.specs.Prelude.{◌∷◌, ◌≡◌, ◌≤◌, div-mul-le_self, and_parts, eqb-true, leb-true, nat_tests, flat_map-append, append-nil, take_more}
+use Rattle.lab_check.specs.Prelude.{All-get_or, get_or-range_with_len, length-range_with_len, get_or_from_slice_get, slice_get_within, slice_get, slice_index}
+use Rattle.lab_check.specs.Prelude.{true, ℤ, Segment, identity, Entry, expand, Sound, ClientLine, Script, IsBoundWhere, IsClientLine, IsScript, bound_by}
+use Rattle.lab_check.specs.Prelude.{entries_of_segment, frames_taken, is_bound, is_right_segment, is_within, entries_of_segments, IsSummed}
+use Rattle.bindings.specs.AnswerLaws.{All-below-answered}
+use Rattle.lab_run.specs.Client.{frames_of}
 use Rattle.lab_check.proofs.Summing.{summed-both}
 
 -- a segment that can be, of a client with this line and file
@@ -32,11 +34,7 @@ module _ (script : Script) (wavs : List Sound) (client : ℕ) (segment : Segment
       omega (arith, product, same, whole)
 
   pub part-within : is_right_segment script wavs (client, segment) ≡ true → segment.part ≤ length (bound_by line wav)
-  part-within right =
-      let less : segment.part < wav.channels =
-      ltb-true segment.part wav.channels (and_parts _ _ (and_parts _ _ (and_parts _ _ (both right).1).0).0).1 in
-      let same : length (bound_by line wav) ≡ wav.channels = has-channels right in
-      omega (arith, less, same)
+  part-within right = grind (arith, nat_tests)
 
   by_bindings : (bindings : Option (List ℕ)) → IsBoundWhere script.card.channels bindings → wav.channels ≤ script.card.channels → (q : ℕ)
       → q < length (Rattle.std.specs.Prelude.unwrap_or bindings (identity wav.channels))

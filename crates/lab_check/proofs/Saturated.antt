@@ -1,8 +1,9 @@
 -- Sums that are saturated are the samples that are played.
 use Rattle.lab_check.specs.Prelude.{ap, append_assoc, arith, drop, length, List, refl, subst, sym, take, ℕ, [], ◌%◌, ◌*◌, ◌++◌, ◌+◌, ◌/◌, ◌<◌, ◌∙◌, ◌∷◌, ◌≡◌}
-use Rattle.lab_check.specs.Prelude.{div-add-mod, mod-lt, ints, get_or-replicate, length-replicate, map-append, take-append-le, take_all}
-use Rattle.lab_check.specs.Prelude.{map-range_with_len_more, div-mul-add, mod-mul-add, int_wrap, w64, range_with_len, map, pos, replicate, slice_index_or, suc}
-use Rattle.lab_check.specs.Prelude.{zero, ℤ, ◌+ℤ◌, clamp_of, Entry, total, range_with_len-append, mixed_at, IsSummed}
+use Rattle.lab_check.specs.Prelude.{div-add-mod, mod-lt, ints, get_or-replicate, length-replicate, map-append, same_lists, take-append-le, take_all}
+use Rattle.lab_check.specs.Prelude.{get_or-map-range_with_len, length-map-range_with_len, map-range_with_len_more, div-mul-add, mod-mul-add, int_wrap, w64}
+use Rattle.lab_check.specs.Prelude.{range_with_len, map, pos, replicate, slice_index_or, ℤ, ◌+ℤ◌, clamp_of, Entry, total, range_with_len-append, mixed_at}
+use Rattle.lab_check.specs.Prelude.{IsSummed}
 
 -- a sum is the total at its place, up to a multiple of 2^64
 pub saturated-total : (channels from : ℕ) (es : List Entry) (sums : List ℤ) (k : ℕ) → IsSummed channels from es (replicate (length sums) (pos 0)) sums → k < length sums
@@ -34,12 +35,10 @@ shifted channels first done k es some =
     ap (λ f. clamp_of (total es f c)) frame ∙ ap (λ n. clamp_of (total es (first + (done * channels + k) / channels) n)) (sym channel)
 
 map-shifted : (f g : ℕ → ℤ) (a b n : ℕ) → ((k : ℕ) → f (a + k) ≡ g (b + k)) → map f (range_with_len a n) ≡ map g (range_with_len b n)
-map-shifted f g a b zero same = refl
-map-shifted f g a b (suc n) same =
-    let first : f a ≡ g b = ap f (let e : a ≡ a + 0 = omega arith in e) ∙ same 0 ∙ ap g (let e : b + 0 ≡ b = omega arith in e) in
-    let more : (k : ℕ) → f ((a + 1) + k) ≡ g ((b + 1) + k) = λ k.
-    ap f (let e : (a + 1) + k ≡ a + (1 + k) = omega arith in e) ∙ same (1 + k) ∙ ap g (let e : b + (1 + k) ≡ (b + 1) + k = omega arith in e) in
-    ap (λ (x : ℤ). x ∷ map f (range_with_len (a + 1) n)) first ∙ ap (λ (l : List ℤ). g b ∷ l) (map-shifted f g (a + 1) (b + 1) n more)
+map-shifted f g a b n same = same_lists (map f (range_with_len a n)) (map g (range_with_len b n)) (length-map-range_with_len f a n ∙ sym (length-map-range_with_len g b n))
+    (λ k d low.
+    let inside : k < n = omega (arith, low, length-map-range_with_len f a n) in
+    get_or-map-range_with_len f a n k (a + k) d inside refl ∙ same k ∙ sym (get_or-map-range_with_len g b n k (b + k) d inside refl))
 
 -- the samples of a window after those before it
 pub window-more : (channels first done frames : ℕ) (es : List Entry) → 0 < channels

@@ -1,9 +1,11 @@
 -- The rows of a reader that pass took its runs in slices.
 use Rattle.lab_check.specs.Prelude.{ap, append_assoc, arith, List, None, Option, refl, Some, subst, sym, ℕ, [], ◌++◌, ◌+◌, ◌-◌, ◌∙◌, ◌∷◌, ◌≡◌, ◌≤◌, and_parts}
 use Rattle.lab_check.specs.Prelude.{eqb-true, leb-true, ltb-true, AllByRecursion, range_with_len, Bool, false, filter, if◌then◌else◌, map, nat_eq, nat_le}
-use Rattle.lab_check.specs.Prelude.{nat_lt, Ok, suc, true, zero, ◌&&◌, range_with_len-append, Row, rows_by, runs_by, is_reader, AreSlices, ends_by_row}
-use Rattle.lab_check.specs.Prelude.{goes_on_after, got_by, IsFirstOf, frames_of_runs, after_row, end_defect, is_next, on_row, reads_end, run_defect}
-use Rattle.lab_check.specs.Prelude.{runs_with_lines, runs_without, taken_by, Unread, IsCapturedRun}
+use Rattle.lab_check.specs.Prelude.{nat_lt, Ok, Result, suc, true, zero, ◌&&◌, range_with_len-append, Report, Row, rows_by, runs_by, is_reader, AreSlices}
+use Rattle.lab_check.specs.Prelude.{ends_by_row, goes_on_after, got_by, IsFirstOf, AreCapturedRuns, frames_of_runs, after_row, end_defect, is_next}
+use Rattle.lab_check.specs.Prelude.{is_run_within, lined_runs, on_row, reader_defect, reads_end, run_defect, runs_with_lines, runs_without, taken_by, Unread}
+use Rattle.lab_check.specs.Prelude.{IsCapturedRun}
+use Rattle.lab_check.proofs.Tested.{first-none, if-none}
 
 -- a run without its line
 abbrev pub unlined : ℕ × ℕ × ℕ → ℕ × ℕ
@@ -53,49 +55,36 @@ goes-without false next first other = refl
 abbrev pub TookAll : Option ℕ → List (ℕ × ℕ × ℕ) → List Row → Type 0
 TookAll next runs rows = (after : Option ℕ) × AreSlices next rows (unread_frames runs) after
 
--- a row after which the others took the rest
-row-took : (number : ℕ) (next : Option ℕ) (runs : List (ℕ × ℕ × ℕ)) (row : Row) (own : List Row) (got : ℕ) (ends : Bool) (after : Unread)
-    → got ≡ got_by row.op row.answer → ends ≡ ends_by_row row.op row.answer
-    → taken_by ends got next runs ≡ Some after → TookAll after.0 after.1 own → TookAll next runs (row ∷ own)
-row-took number next runs row own zero ends after got_is ends_is taken rest =
+-- what a row that got so many frames leaves: they are the first ones that were left, and the others are left after it
+record Leaves (next : Option ℕ) (runs : List (ℕ × ℕ × ℕ)) (ends : Bool) (got : ℕ) (after : Unread) : Type 0 where
+  pub first : ℕ
+  pub is_first : IsFirstOf next first
+  pub goes : after.0 ≡ goes_on_after ends next first got
+  pub frames : unread_frames runs ≡ range_with_len first got ++ unread_frames after.1
+
+taken-leaves : (ends : Bool) (got : ℕ) (next : Option ℕ) (runs : List (ℕ × ℕ × ℕ)) (after : Unread) → taken_by ends got next runs ≡ Some after → Leaves next runs ends got after
+taken-leaves ends zero next runs after is =
     let any = some-first next in
     let same : (goes_on_after ends next 0 zero, runs) ≡ after = cc in
-    let moved : TookAll (goes_on_after ends next 0 zero) runs own = subst (λ (a : Unread). TookAll a.0 a.1 own) (sym same) rest in
-    let goes : goes_on_after ends next 0 zero ≡ goes_on_after (ends_by_row row.op row.answer) next any.0 (got_by row.op row.answer) =
-    goes-without ends next 0 any.0 ∙ ap (λ e. goes_on_after e next any.0 zero) ends_is ∙ ap (λ g. goes_on_after (ends_by_row row.op row.answer) next any.0 g) got_is in (
-      moved.0,
-      (
-        any.0,
-        unread_frames runs,
-        any.1,
-        ap (λ g. range_with_len any.0 g ++ unread_frames runs) got_is,
-        subst (λ (at : Option ℕ). AreSlices at own (unread_frames runs) moved.0) goes moved.1,
-      ),
-    )
-row-took number next [] row own (suc n) ends after got_is ends_is taken rest = absurd cc
-row-took number next ((line, first, count) ∷ runs) row own (suc n) ends after got_is ends_is taken rest =
-    by_test (is_next next first && nat_le (suc n) count) refl taken
+    subst (Leaves next runs ends 0) same (record { first = any.0; is_first = any.1; goes = goes-without ends next 0 any.0; frames = refl })
+taken-leaves ends (suc n) next [] after is = absurd cc
+taken-leaves ends (suc n) next ((line, first, count) ∷ runs) after is = by_test (is_next next first && nat_le (suc n) count) refl is
   where
-    took : IsFirstOf next first → suc n ≤ count → (goes_on_after ends next first (suc n), runs_without (suc n) line first count runs) ≡ after → TookAll next ((line, first, count) ∷ runs) (row ∷ own)
-    took is_first few same =
-        let moved : TookAll (goes_on_after ends next first (suc n)) (runs_without (suc n) line first count runs) own = subst (λ (a : Unread). TookAll a.0 a.1 own) (sym same) rest in
-        let goes : goes_on_after ends next first (suc n) ≡ goes_on_after (ends_by_row row.op row.answer) next first (got_by row.op row.answer) =
-        ap (λ e. goes_on_after e next first (suc n)) ends_is ∙ ap (λ g. goes_on_after (ends_by_row row.op row.answer) next first g) got_is in (
-          moved.0,
-          (
-            first,
-            unread_frames (runs_without (suc n) line first count runs),
-            is_first,
-            frames-taken (suc n) line first count runs few ∙ ap (λ g. range_with_len first g ++ unread_frames (runs_without (suc n) line first count runs)) got_is,
-            subst (λ (at : Option ℕ). AreSlices at own (unread_frames (runs_without (suc n) line first count runs)) moved.0) goes moved.1,
-          ),
-        )
-
     by_test : (b : Bool) → (is_next next first && nat_le (suc n) count) ≡ b
         → (if b then Some (goes_on_after ends next first (suc n), runs_without (suc n) line first count runs) else None) ≡ Some after
-        → TookAll next ((line, first, count) ∷ runs) (row ∷ own)
-    by_test true both same = let tests = and_parts (is_next next first) _ both in took (first-of next first tests.0) (leb-true (suc n) count tests.1) cc
-    by_test false both same = absurd cc
+        → Leaves next ((line, first, count) ∷ runs) ends (suc n) after
+    by_test true both left =
+        let tests = and_parts (is_next next first) _ both in
+        let same : (goes_on_after ends next first (suc n), runs_without (suc n) line first count runs) ≡ after = cc in
+        subst (Leaves next ((line, first, count) ∷ runs) ends (suc n)) same
+        (record { first = first; is_first = first-of next first tests.0; goes = refl; frames = frames-taken (suc n) line first count runs (leb-true (suc n) count tests.1) })
+    by_test false both left = absurd cc
+
+-- what is left after a row behind which nothing fails
+left-after : (line : ℕ) (after : Option Unread) (rest : Unread → Result (List (ℕ × ℕ × ℕ)) ℕ) → end_defect (on_row line after rest) ≡ None
+    → (left : Unread) × (after ≡ Some left) × (end_defect (rest left) ≡ None)
+left-after line None rest is = absurd cc
+left-after line (Some left) rest is = (left, refl, is)
 
 none-left : (line : ℕ) (next : Option ℕ) (runs : List (ℕ × ℕ × ℕ)) → end_defect (Ok runs) ≡ None → TookAll next runs []
 none-left line next [] is = (next, (refl, refl))
@@ -107,36 +96,42 @@ rows-took number line next runs [] is = none-left line next runs is
 rows-took number line next runs (row ∷ rows) is =
     by_reader (λ after none. rows-took number (line + 1) after.0 after.1 rows none) (is_reader number row.actor) is
   where
-    by_row : ((after : Unread) → end_defect (reads_end number (line + 1) after rows) ≡ None → TookAll after.0 after.1 (rows_by (is_reader number) rows))
-        → (after : Option Unread) → after_row (next, runs) row.op row.answer ≡ after
-        → end_defect (on_row line after (λ r. reads_end number (line + 1) r rows)) ≡ None
-        → TookAll next runs (row ∷ rows_by (is_reader number) rows)
-    by_row others None step bad = absurd cc
-    by_row others (Some after) step good =
-        row-took number next runs row (rows_by (is_reader number) rows) (got_by row.op row.answer) (ends_by_row row.op row.answer) after refl refl step
-        (others after good)
-
     by_reader : ((after : Unread) → end_defect (reads_end number (line + 1) after rows) ≡ None → TookAll after.0 after.1 (rows_by (is_reader number) rows))
         → (b : Bool)
         → end_defect (if b then on_row line (after_row (next, runs) row.op row.answer) (λ after. reads_end number (line + 1) after rows) else reads_end number (line + 1) (next, runs) rows) ≡ None
         → TookAll next runs (if b then row ∷ rows_by (is_reader number) rows else rows_by (is_reader number) rows)
     by_reader others false none = others (next, runs) none
-    by_reader others true none = by_row others (after_row (next, runs) row.op row.answer) refl none
+    by_reader others true none =
+        let left = left-after line (after_row (next, runs) row.op row.answer) _ none in
+        let leaves = taken-leaves (ends_by_row row.op row.answer) (got_by row.op row.answer) next runs left.0 left.1 in
+        let more = others left.0 left.2 in (
+          more.0,
+          (
+            leaves.first,
+            unread_frames left.0.1,
+            leaves.is_first,
+            leaves.frames,
+            subst (λ (at : Option ℕ). AreSlices at (rows_by (is_reader number) rows) (unread_frames left.0.1) more.0) leaves.goes more.1,
+          ),
+        )
 
--- the runs are of captured frames
-pub runs-captured : (least end bottom : ℕ) (runs : List (ℕ × ℕ × ℕ)) → bottom ≤ least → run_defect least end runs ≡ None
-    → AllByRecursion (IsCapturedRun bottom end) (map unlined runs)
-runs-captured least end bottom [] low is = tt
-runs-captured least end bottom ((line, first, count) ∷ runs) low is =
-    by_test (λ above rest. runs-captured (first + count + 1) end bottom runs above rest) (nat_lt 0 count && nat_le least first && nat_le (first + count) end) refl is
-  where
-    by_test : (bottom ≤ first + count + 1 → run_defect (first + count + 1) end runs ≡ None → AllByRecursion (IsCapturedRun bottom end) (map unlined runs))
-        → (b : Bool) → (nat_lt 0 count && nat_le least first && nat_le (first + count) end) ≡ b
-        → (if b then run_defect (first + count + 1) end runs else Some line) ≡ None
-        → AllByRecursion (IsCapturedRun bottom end) ((first, count) ∷ map unlined runs)
-    by_test others true tests rest =
-        let to = and_parts _ (nat_le (first + count) end) tests in
-        let from = and_parts (nat_lt 0 count) _ to.0 in
-        let above : least ≤ first = leb-true least first from.1 in
-        ((ltb-true 0 count from.0, omega (arith, above, low), leb-true (first + count) end to.1), others (omega (arith, above, low)) rest)
-    by_test others false tests rest = absurd cc
+-- runs without a defect are of captured frames
+pub runs-captured : (least end : ℕ) (runs : List (ℕ × ℕ × ℕ)) → run_defect least end runs ≡ None → AreCapturedRuns least end (map unlined runs)
+runs-captured least end [] is = tt
+runs-captured least end ((line, first, count) ∷ runs) is =
+    let tests = if-none (is_run_within least end first count) (run_defect (first + count + 1) end runs) line is in
+    let to = and_parts _ (nat_le (first + count) end) tests.0 in
+    let from = and_parts (nat_lt 0 count) _ to.0 in
+    (ltb-true 0 count from.0, leb-true least first from.1, leb-true (first + count) end to.1, runs-captured (first + count + 1) end runs tests.1)
+
+-- each of them by itself
+pub each-captured : (bottom least end : ℕ) (runs : List (ℕ × ℕ)) → bottom ≤ least → AreCapturedRuns least end runs → AllByRecursion (IsCapturedRun bottom end) runs
+each-captured bottom least end [] low are = tt
+each-captured bottom least end ((first, count) ∷ runs) low (some, from, to, rest) =
+    ((some, omega (arith, low, from), to), each-captured bottom (first + count + 1) end runs (omega (arith, low, from)) rest)
+
+-- the runs of a reader without a defect
+pub reader-captured : (report : Report) (number : ℕ) → reader_defect report number ≡ None
+    → AreCapturedRuns report.first (report.first + report.frames) (map unlined (lined_runs report number))
+reader-captured report number is = runs-captured report.first (report.first + report.frames) (lined_runs report number)
+    (first-none (run_defect report.first (report.first + report.frames) (lined_runs report number)) _ is)

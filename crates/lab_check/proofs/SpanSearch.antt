@@ -1,8 +1,8 @@
 -- A frame is looked up among spans.
 use Rattle.lab_check.specs.Prelude.{ap, arith, get_or, length, List, None, refl, Some, subst, sym, take, ℕ, [], ◌++◌, ◌+◌, ◌-◌, ◌<◌, ◌^◌, ◌∙◌, ◌∷◌, ◌≡◌, ◌≤◌}
-use Rattle.lab_check.specs.Prelude.{or-false, or_assoc, nat_tests, length-map, map-append, take_more, list_any-append, list_any, position, prefix_len, Bool}
-use Rattle.lab_check.specs.Prelude.{cond, false, map, max, min, nat_le, nat_lt, not, slice_get, slice_index_or, suc, true, zero, ◌&&◌, ◌||◌, FrameSpan}
-use Rattle.lab_check.specs.Prelude.{greatest_ends, is_in_span}
+use Rattle.lab_check.specs.Prelude.{or-false, or_assoc, nat_tests, length-map, map-append, take_more, list_any_none, list_any, position, prefix_len, Bool, cond}
+use Rattle.lab_check.specs.Prelude.{false, map, max, min, nat_le, nat_lt, not, slice_index_or, suc, true, zero, ◌&&◌, ◌||◌, FrameSpan, greatest_ends}
+use Rattle.lab_check.specs.Prelude.{is_in_span}
 
 -- ---- one span
 
@@ -16,26 +16,15 @@ span-frames frame first count last low last_is = grind (arith, nat_tests)
 
 -- ---- spans, one after the other
 
-pub any-pushed : (frame : ℕ) (spans : List FrameSpan) (span : FrameSpan)
-    → list_any (is_in_span frame) (spans ++ span ∷ []) ≡ (list_any (is_in_span frame) spans || is_in_span frame span)
-any-pushed frame spans span =
-    list_any-append (is_in_span frame) spans (span ∷ [])
-    ∙ ap (λ b. list_any (is_in_span frame) spans || b) (or-false (is_in_span frame span))
-
-pub any-same : (frame : ℕ) (spans : List FrameSpan) → list_any (is_in_span frame) spans ≡ (list_any (is_in_span frame) spans || false)
-any-same frame spans = sym (or-false (list_any (is_in_span frame) spans))
-
 pub ends-length : (most : ℕ) (spans : List FrameSpan) → length (greatest_ends most spans) ≡ length spans
 ends-length most [] = refl
 ends-length most (span ∷ spans) = ap suc (ends-length (max most span.last) spans)
 
 -- no span begins by a frame
-none-begins : (frame : ℕ) (spans : List FrameSpan) → ((j : ℕ) (d : FrameSpan) → j < length spans → nat_le (slice_index_or spans j d).first frame ≡ false)
+pub none-begins : (frame : ℕ) (spans : List FrameSpan) → ((j : ℕ) (d : FrameSpan) → j < length spans → nat_le (slice_index_or spans j d).first frame ≡ false)
     → list_any (is_in_span frame) spans ≡ false
-none-begins frame [] late = refl
-none-begins frame (span ∷ spans) late =
-    let here : nat_le span.first frame ≡ false = late zero span (omega arith) in
-    rw here (none-begins frame spans (λ j d below. late (suc j) d (omega (arith, below))))
+none-begins frame spans late =
+    list_any_none (is_in_span frame) spans (λ j d below. ap (λ b. b && nat_le frame (slice_index_or spans j d).last) (late j d below))
 
 -- as many as k of the spans begin by a frame
 looked-up : (most frame k : ℕ) (spans : List FrameSpan) → k ≤ length spans
@@ -69,22 +58,7 @@ found frame k (span ∷ spans) low early late =
     (λ j d from below. late (suc j) d (omega (arith, from)) (omega (arith, below)))
     ∙ ap (λ most. nat_le frame (slice_index_or (most ∷ greatest_ends most spans) k 0)) same
 
-pub nothing-found : (frame : ℕ) (spans : List FrameSpan) → ((j : ℕ) (d : FrameSpan) → 0 ≤ j → j < length spans → nat_le (slice_index_or spans j d).first frame ≡ false)
-    → false ≡ list_any (is_in_span frame) spans
-nothing-found frame spans late = sym (none-begins frame spans (λ j d below. late j d (omega arith) below))
-
 -- ---- lists of indexes
-
-pub get-pushed : {X : Type 0} (xs : List X) (x : X) (k : ℕ) → k ≡ length xs → slice_get (xs ++ x ∷ []) k ≡ Some x
-get-pushed [] x zero is = refl
-get-pushed [] x (suc k) is = absurd (omega (arith, is))
-get-pushed (y ∷ xs) x zero is = absurd (omega (arith, is))
-get-pushed (y ∷ xs) x (suc k) is = get-pushed xs x k (omega (arith, is))
-
-pub get-before : {X : Type 0} (xs : List X) (x : X) (k : ℕ) → k < length xs → slice_get (xs ++ x ∷ []) k ≡ slice_get xs k
-get-before [] x k low = absurd (omega (arith, low))
-get-before (y ∷ xs) x zero low = refl
-get-before (y ∷ xs) x (suc k) low = get-before xs x k (omega (arith, low))
 
 -- ---- the place of a test among the answers
 

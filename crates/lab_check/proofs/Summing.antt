@@ -3,22 +3,14 @@ use Rattle.lab_check.specs.Prelude.{ap, arith, div-add-mod', length, length-set,
 use Rattle.lab_check.specs.Prelude.{◌∷◌, ◌≡◌, ◌≤◌, and_from, eq-eqb, eqb-false, eqb-true, nat_tests, flat_map-append, int_wrap-add_same, int_wrap_fits, ints}
 use Rattle.lab_check.specs.Prelude.{SFits-int_wrap, get_or-set_other, get_or-set_same, map-append, take_more, div-mul-add, mod-mul-add, int_wrap, w64, flat_map}
 use Rattle.lab_check.specs.Prelude.{range_with_len, Bool, false, if◌then◌else◌, nat_eq, nat_lt, pos, slice_index, slice_index_or, suc, true, zero, ℤ, ◌+ℤ◌}
-use Rattle.lab_check.specs.Prelude.{rising, Entry, Added, at-append, total-append, at, is_at, sum_of_samples, total, frame_entries, range_with_len-append}
-use Rattle.lab_check.specs.Prelude.{IsSummed}
-use Rattle.lab_check.proofs.Covers.{other-frame}
-use Rattle.lab_check.proofs.LateMisses.{none-at}
+use Rattle.lab_check.specs.Prelude.{rising, Entry, Added, total-append, at, is_at, total, frame_entries, range_with_len-append, IsSummed}
+use Rattle.run_laws.proofs.Expanded.{flat-none, other-frame}
 
 -- ---- nothing, one after the other, and one entry
 
 pub summed-none : (channels from : ℕ) (es : List Entry) (sums : List ℤ) → ((k : ℕ) → k < length sums → at es (from + k / channels) (k % channels) ≡ [])
     → IsSummed channels from es sums sums
-summed-none channels from es sums none = record {
-  same = refl;
-  sums = λ k low.
-      let nothing : total es (from + k / channels) (k % channels) ≡ pos 0 = ap sum_of_samples (none k low) in
-      let same : slice_index_or sums k (pos 0) ≡ slice_index_or sums k (pos 0) +ℤ total es (from + k / channels) (k % channels) = omega (arith, ints, nothing) in
-      ap (int_wrap w64) same;
-}
+summed-none channels from es sums none = grind (arith, nat_tests)
 
 pub summed-both : (channels from : ℕ) (xs ys : List Entry) (old mid new : List ℤ) → IsSummed channels from xs old mid → IsSummed channels from ys mid new
     → IsSummed channels from (xs ++ ys) old new
@@ -133,11 +125,5 @@ module _ (member : ℕ) (bindings : List ℕ) (sample_of : ℕ → ℕ → ℤ) 
 
   pub outside : (a n frame channel : ℕ) → ((j : ℕ) → a ≤ j → j < a + n → card + j ≡ frame → ⊥)
       → at (of a n) frame channel ≡ []
-  outside a zero frame channel not = refl
-  outside a (suc n) frame channel not =
-      let apart : card + a ≡ frame → ⊥ = not a (omega arith) (omega arith) in
-      at-append (frame_of_segment a) (of (a + 1) n) frame channel
-      ∙ ap (λ l. l ++ at (of (a + 1) n) frame channel)
-      (none-at (frame_of_segment a) frame channel
-      (other-frame member bindings frame channel (sample_of a) (card + a) (take (places_at a) (rising bindings)) (grind (arith, nat_tests, apart))))
-      ∙ outside (a + 1) n frame channel (λ j low high. not j (omega (arith, low)) (omega (arith, high)))
+  outside a n frame channel not = flat-none frame_of_segment frame channel a n (λ j low high.
+      other-frame member bindings (sample_of j) (card + j) frame channel (take (places_at j) (rising bindings)) (let apart = not j low high in grind (arith, nat_tests, apart)))

@@ -1,16 +1,15 @@
 -- The tests of a check, one after the other: a stop at one is a stop of the check.
-use Rattle.lab_compare.specs.Prelude.{add-one, ap, arith, drop, drop-cons, Err, false, get_or, length, length-take, List, refl, subst, suc, sym, take, true}
-use Rattle.lab_compare.specs.Prelude.{zero, ℕ, [], ◌+◌, ◌<◌, ◌∙◌, ◌∷◌, ◌≡◌, ◌≤◌, nat_tests, drop_all, take_all, get_or_from_slice_get, slice_get_within}
-use Rattle.lab_compare.specs.Prelude.{ForSome, option_map, All, Bool, IfOk, if◌then◌else◌, min, nat_le, None, Ok, Option, Result, slice_get, slice_index_or}
-use Rattle.lab_compare.specs.Prelude.{Some, ℤ, Sound, bytes_under, Files, Report, CardLine, ReaderLine, Script, HasTestedRuns, HasTestedSegments}
-use Rattle.lab_compare.specs.Prelude.{most_of_report, tested, tested_report, line_of_end, line_of_played, played_samples, reader_samples, readers_samples}
-use Rattle.lab_compare.specs.Prelude.{bytes_or_cause, Cause, first_bytes, ◌>>=◌, IsSameShelf, AnswersOrStops, Misses, TestFaults, input_in, RunInput}
-use Rattle.lab_compare.specs.Prelude.{OutputFile, played_file, recorded_file, as_tested, check_in, is_same_in, IsReportIn, outputs_in, passed, played_in}
-use Rattle.lab_compare.specs.Prelude.{recording_in, recordings_in, same_in, same_or_line, tested_in}
+use Rattle.lab_compare.specs.Prelude.{add-one, ap, arith, drop, drop-cons, Err, get_or, length, length-take, List, refl, subst, suc, sym, take, ℕ, [], ◌+◌, ◌<◌}
+use Rattle.lab_compare.specs.Prelude.{◌∙◌, ◌∷◌, ◌≡◌, ◌≤◌, nat_tests, drop_all, take_all, get_or_from_slice_get, slice_get_within, ForSome, option_map, All}
+use Rattle.lab_compare.specs.Prelude.{Bool, IfOk, min, None, Ok, Option, Result, slice_get, slice_index_or, Some, ℤ, Sound, bytes_under, Files, Report}
+use Rattle.lab_compare.specs.Prelude.{CardLine, ReaderLine, Script, HasTestedRuns, HasTestedSegments, most_of_report, tested, tested_report, line_of_end}
+use Rattle.lab_compare.specs.Prelude.{line_of_played, played_samples, reader_samples, readers_samples, bytes_or_cause, Cause, first_bytes, ◌>>=◌, IsSameShelf}
+use Rattle.lab_compare.specs.Prelude.{AnswersOrStops, Misses, TestFaults, input_in, RunInput, OutputFile, played_file, recorded_file, as_tested, check_in}
+use Rattle.lab_compare.specs.Prelude.{is_same_in, IsReportIn, outputs_in, passed, played_in, recording_in, recordings_in, same_in, same_or_line, tested_in}
 use Rattle.lab_lines.specs.Limits.{IsReaderLine}
-use Rattle.lab_report.specs.Reading.{report_in_text}
 use Rattle.lab_check.specs.declared.error.CheckError.{CheckError}
 use Rattle.lab_check.specs.Results.{ChecksAs}
+use Rattle.lab_check.proofs.ReaderSamples.{recorded-at}
 use Rattle.lab_check.specs.declared.error.CheckError.TheVariants as checks
 use Rattle.lab_shelf.specs.declared.traits.Shelf as shelves
 
@@ -51,12 +50,7 @@ whole-file (Some content) name text most is few =
 
 -- a text that passes isn't too long
 pub few-bytes : (script : Script) (wavs : List Sound) (text : List ℕ) (report : Report) → tested_report script wavs text ≡ Ok report → length text ≤ most_of_report
-few-bytes script wavs text report passes = by_test (nat_le (length text) most_of_report) refl passes
-  where
-    by_test : (b : Bool) → nat_le (length text) most_of_report ≡ b
-        → (if b then tested script wavs (report_in_text script text) else Err 0) ≡ Ok report → length text ≤ most_of_report
-    by_test true low is = grind (arith, nat_tests, low)
-    by_test false low is = absurd cc
+few-bytes script wavs text report passes = grind (arith, nat_tests)
 
 -- the file of a report that passes
 pub report-held : (files : Option Files) (name : List ℕ) (script : Script) (wavs : List Sound) (text : List ℕ) (report : Report)
@@ -74,20 +68,14 @@ tested_in-of m input name fetched is = ap (λ (r : Result (List ℕ) Cause). r >
 -- a command ends at the first test that a text fails
 pub AnswersOrStops-passed : {X : Type 0} (end : Result X CheckError) (said : Result X ℕ) → ChecksAs (λ x. x) end said
     → AnswersOrStops (λ x. x) (passed end) (as_tested said)
-AnswersOrStops-passed (Ok x) said is = ap as_tested is
-AnswersOrStops-passed (Err (checks.No line)) said is = ap as_tested is
-AnswersOrStops-passed (Err checks.Memory) said is = tt
+AnswersOrStops-passed end said is = grind (arith, nat_tests)
 
 -- it counts no fetch, and finds no file missing
 pub TestFaults-passed : {X : Type 0} (end : Result X CheckError) (before now : ℕ) → now ≡ before → TestFaults (passed end) before now
-TestFaults-passed (Ok x) before now same = same
-TestFaults-passed (Err (checks.No line)) before now same = same
-TestFaults-passed (Err checks.Memory) before now same = same
+TestFaults-passed end before now same = grind (arith, nat_tests)
 
 pub Misses-test : {X Y : Type 0} (end : Result X CheckError) (given : Result Y Cause) → Misses (passed end) given
-Misses-test (Ok x) given = tt
-Misses-test (Err (checks.No line)) given = tt
-Misses-test (Err checks.Memory) given = tt
+Misses-test end given = grind (arith, nat_tests)
 
 -- the tests of the text in a file are those of what its file gives
 pub tested-answers : (files : Option Files) (input : RunInput) (wavs : List Sound) (name text spelled : List ℕ) (end : Result Report CheckError)
@@ -96,9 +84,7 @@ pub tested-answers : (files : Option Files) (input : RunInput) (wavs : List Soun
     → ForSome files (λ m. AnswersOrStops (λ report. report) (passed end) (tested_in m input name))
 tested-answers files input wavs name text spelled end fetched wavs_are same is m told =
     subst (λ (given : Result Report Cause). AnswersOrStops (λ report. report) (passed end) given) (sym (tested_in-of m input name (Ok text) (fetched m told)))
-    (AnswersOrStops-passed end (tested_report input.script input.sounds text)
-    (subst (λ (t : List ℕ). ChecksAs (λ report. report) end (tested_report input.script input.sounds t)) same
-    (subst (λ (ws : List Sound). ChecksAs (λ report. report) end (tested_report input.script ws spelled)) wavs_are is)))
+    (AnswersOrStops-passed end (tested_report input.script input.sounds text) (rw (wavs_are, same) at is))
 
 -- where they pass, what the file holds passes
 pub tested-held : (files : Option Files) (input : RunInput) (wavs : List Sound) (name text spelled : List ℕ) (end : Result Report CheckError)
@@ -107,14 +93,12 @@ pub tested-held : (files : Option Files) (input : RunInput) (wavs : List Sound) 
     → IfOk end (λ report. HasTestedSegments input.script wavs report) → IfOk end (λ report. HasTestedRuns input.script report)
     → IfOk (passed end) (IsReportIn files input name)
 tested-held files input wavs name text spelled (Ok report) fetched wavs_are same is segments runs =
-    let passes : tested_report input.script input.sounds text ≡ Ok report =
-    subst (λ (t : List ℕ). tested_report input.script input.sounds t ≡ Ok report) same
-    (subst (λ (ws : List Sound). tested_report input.script ws spelled ≡ Ok report) wavs_are is) in
+    let passes : tested_report input.script input.sounds text ≡ Ok report = rw (wavs_are, same) at is in
     record {
       text = text;
       fetched = report-held files name input.script input.sounds text report fetched passes;
       passes = passes;
-      segments = subst (λ (ws : List Sound). HasTestedSegments input.script ws report) wavs_are segments;
+      segments = rw wavs_are at segments;
       runs = runs;
     }
 tested-held files input wavs name text spelled (Err (checks.No line)) fetched wavs_are same is segments runs = tt
@@ -122,29 +106,14 @@ tested-held files input wavs name text spelled (Err checks.Memory) fetched wavs_
 
 -- ---- the readers
 
--- what the reader of a number recorded
-readers_samples-at : (card : CardLine) (capture : Option Sound) (report : Report) (first : ℕ) (readers : List ReaderLine) (k : ℕ) (reader : ReaderLine)
-    → slice_get readers k ≡ Some reader
-    → slice_index_or (readers_samples card capture report first readers) k [] ≡ reader_samples card capture report (first + k) reader
-readers_samples-at card capture report first [] k reader is = absurd cc
-readers_samples-at card capture report first (line ∷ lines) zero reader is =
-    let same : line ≡ reader = cc in
-    let here : first ≡ first + 0 = omega arith in
-    ap (reader_samples card capture report first) same ∙ ap (λ n. reader_samples card capture report n reader) here
-readers_samples-at card capture report first (line ∷ lines) (suc k) reader is =
-    let there : (first + 1) + k ≡ first + suc k = omega arith in
-    readers_samples-at card capture report (first + 1) lines k reader is ∙ ap (λ n. reader_samples card capture report n reader) there
-
 -- the samples that are compared are those of the reader
 pub reader_samples-taken : (card : CardLine) (capture copied : Option Sound) (report : Report) (readers : List ReaderLine) (number : ℕ) (reader : ReaderLine)
     (taken given : List ℤ) → taken ≡ given → given ≡ slice_index_or (readers_samples card copied report 0 readers) number [] → copied ≡ capture
     → slice_get readers number ≡ Some reader → taken ≡ reader_samples card capture report number reader
 reader_samples-taken card capture copied report readers number reader taken given same is copy line =
-    let there : 0 + number ≡ number = omega arith in
     same ∙ is
     ∙ ap (λ (c : Option Sound). slice_index_or (readers_samples card c report 0 readers) number []) copy
-    ∙ readers_samples-at card capture report 0 readers number reader line
-    ∙ ap (λ (n : ℕ). reader_samples card capture report n reader) there
+    ∙ recorded-at card capture report number readers reader line
 
 -- a reader that there is keeps a line's limits
 pub reader-line : (card : CardLine) (readers : List ReaderLine) (number : ℕ) (reader : ReaderLine) → All (IsReaderLine card) readers

@@ -1,12 +1,10 @@
 -- A file is compared with the one that it must be, piece by piece.
-use Rattle.lab_compare.specs.Prelude.{ap, arith, drop, Err, false, inl, inr, length, length-drop, length-take, List, refl, subst, sym, take, true, ℕ, ◌%◌, ◌*◌}
-use Rattle.lab_compare.specs.Prelude.{◌+◌, ◌-◌, ◌<◌, ◌∙◌, ◌≡◌, ◌≤◌, ◌⊎◌, take_all, bytes_eq-Decides, ForSome, option_map, Bool, min, None, Ok, Option, Result}
-use Rattle.lab_compare.specs.Prelude.{Some, ℤ, ◌&&◌, bytes_eq, bytes_under, Files, IsSameUpTo, bytes_or_cause, Cause, fetched_from, first_bytes, ◌>>=◌}
+use Rattle.lab_compare.specs.Prelude.{ap, arith, drop, Err, false, inl, inr, length, length-drop, length-take, List, refl, subst, sym, take, true, ℕ, ◌%◌, ◌+◌}
+use Rattle.lab_compare.specs.Prelude.{◌-◌, ◌<◌, ◌∙◌, ◌≡◌, ◌≤◌, ◌⊎◌, nat_tests, take_all, bytes_eq-Decides, Decides, one_answer, ForSome, option_map, Bool, min}
+use Rattle.lab_compare.specs.Prelude.{Ok, Option, Some, ℤ, ◌&&◌, bytes_eq, bytes_under, Files, bytes_or_cause, Cause, fetched_from, first_bytes, ◌>>=◌}
 use Rattle.lab_compare.specs.Prelude.{IsSameShelf, OutputFile, finished_file, is_same_in}
-use Rattle.std.proofs.Math.Nat.{mul-mod_left}
 use Rattle.std.proofs.lemmas.Bool.{cases_lt}
-use Rattle.std.specs.Bool.{Decides, one_answer}
-use Rattle.lab_stop.specs.Pieces.{refused_alike}
+use Rattle.lab_check.specs.Pieces.{IsSameUpTo}
 use Rattle.lab_shelf.specs.declared.traits.Shelf as shelves
 
 -- what the law of pieces says of all files
@@ -29,45 +27,25 @@ pub record IsUncompared (from : ℕ) (same last : Bool) : Type 0 where
 abbrev pub IsComparing : Files → List ℕ → List ℕ → ℕ → Bool → Bool → Type 0
 IsComparing files name expected from same last = IsUncompared from same last ⊎ IsCompared files name expected from same last
 
--- an even number
-pub record IsEven (n : ℕ) : Type 0 where
-  pub half : ℕ
-  pub twice : n ≡ half * 2
-
 -- what a loop over the pieces keeps: the place is even, unless it is past the end that the file must have
 pub record Comparing {S : Type 0} (H : shelves.Ghosts S) (old now : S) (name expected : List ℕ) (size from : ℕ)
     (same last : Bool) : Type 0 where
   pub so_far : ForSome (H.files old) (λ m. IsComparing m name expected from same last)
-  pub even : from ≤ size → IsEven from
+  pub even : from ≤ size → from % 2 ≡ 0
   pub within : from ≤ size + 1
   pub shelf : IsSameShelf H old now
 
 -- ---- places
 
--- an even number leaves no rest
-pub IsEven-rest : (n : ℕ) → IsEven n → n % 2 ≡ 0
-IsEven-rest n is = ap (λ (k : ℕ). k % 2) is.twice ∙ mul-mod_left is.half 2
-
 -- the next place is even too, unless it is past the end
-pub IsEven-next : (size from most : ℕ) → from ≤ size → (from ≤ size → IsEven from) → most ≡ min (size + 1 - from) 65_536
-    → from + most ≤ size → IsEven (from + most)
-IsEven-next size from most low even most_is within =
-    let so_far = even low in
-    let whole : most ≡ 65_536 = omega (arith, low, most_is, within) in
-    record { half = so_far.half + 32_768; twice = omega (arith, so_far.twice, whole) }
+pub even-next : (size from most : ℕ) → from ≤ size → (from ≤ size → from % 2 ≡ 0) → most ≡ min (size + 1 - from) 65_536 → from + most ≤ size → (from + most) % 2 ≡ 0
+even-next size from most low even most_is within = grind (arith, nat_tests)
 
 -- ---- one piece
 
 tells-so-far : (files : Files) (name expected content : List ℕ) (from : ℕ) (same last : Bool) → bytes_under files name ≡ Some content
     → IsComparing files name expected from same last → Decides same (take from content ≡ take from expected)
-tells-so-far files name expected content from same last held (inl none) = (
-  λ is. ap (λ (n : ℕ). take n content) none.nothing ∙ sym (ap (λ (n : ℕ). take n expected) none.nothing),
-  λ is. none.alike,
-)
-tells-so-far files name expected content from same last held (inr so_far) =
-    let both : Some so_far.content ≡ Some content = sym so_far.held ∙ held in
-    let one : so_far.content ≡ content = cc in
-    subst (λ (c : List ℕ). Decides same (take from c ≡ take from expected)) one so_far.tells
+tells-so-far files name expected content from same last held is = grind (arith, nat_tests)
 
 -- two tests that both hold
 both-decide : (P Q R : Type 0) (a b : Bool) → Decides a P → Decides b Q → (P × Q → R) → (R → P × Q) → Decides (a && b) R
@@ -89,10 +67,7 @@ pub record IsPieceOf (content : Option (List ℕ)) (piece : List ℕ) (from most
 
 IsPieceOf-fetched : (content : Option (List ℕ)) (name piece : List ℕ) (from most : ℕ)
     → bytes_or_cause name (option_map (λ (c : List ℕ). take most (drop from c)) content) ≡ Ok piece → IsPieceOf content piece from most
-IsPieceOf-fetched None name piece from most is = absurd cc
-IsPieceOf-fetched (Some content) name piece from most is =
-    let same : take most (drop from content) ≡ piece = cc in
-    record { whole = content; held = refl; taken = same }
+IsPieceOf-fetched content name piece from most is = grind (arith, nat_tests)
 
 IsCompared-next : PiecesTell → (files : Files) (name expected piece made : List ℕ) (from most : ℕ) (same last then_same then_last : Bool)
     → IsComparing files name expected from same last → fetched_from files name from most ≡ Ok piece → made ≡ take most (drop from expected)
@@ -195,7 +170,4 @@ is_same_in-all files file samples size from same last so_far is enough within m 
 pub is_same_in-missing : (m : Files) (file : OutputFile) (samples : List ℤ) (spelled : List ℕ) (from most : ℕ) (e : Cause) → spelled ≡ file.name
     → fetched_from m spelled from most ≡ Err e → is_same_in m file samples ≡ Err e
 unfolding is_same_in
-is_same_in-missing m file samples spelled from most e named is =
-    ap (λ (r : Result (List ℕ) Cause). r >>= λ bytes. Ok (bytes_eq bytes (finished_file file samples)))
-    (refused_alike m file.name from most 0 (length (finished_file file samples) + 1) e
-    (subst (λ (n : List ℕ). fetched_from m n from most ≡ Err e) named is))
+is_same_in-missing m file samples spelled from most e named is = grind (arith, nat_tests)

@@ -1,15 +1,18 @@
--- A check of the files of a checked run finds no cause.
-use Rattle.lab_compare.specs.Prelude.{ap, arith, drop, length, List, map, refl, sym, take, true, ℕ, [], ◌+◌, ◌∙◌, ◌∷◌, ◌≡◌, ◌≤◌, take_all, bytes_eq-Decides}
-use Rattle.lab_compare.specs.Prelude.{option_map, Bool, None, Ok, Option, Result, Some, unwrap_or, ℤ, bytes_eq, canonical, bytes_under, Files, Report, CardLine}
-use Rattle.lab_compare.specs.Prelude.{ReaderLine, read_by, IsChecked, recorded_sounds, run_sounds, most_of_report, tested_report, line_of_end, line_of_played}
-use Rattle.lab_compare.specs.Prelude.{played_samples, reader_samples, readers_samples, run_samples, bytes_or_cause, Cause, first_bytes, ◌>>=◌, input_in}
-use Rattle.lab_compare.specs.Prelude.{RunInput, OutputFile, finished_file, output_files, played_file, reader_channels, recorded_file, as_tested, check_in}
-use Rattle.lab_compare.specs.Prelude.{HoldsRun, is_same_in, outputs_in, played_in, recording_in, recordings_in, same_in, same_or_line, tested_in}
+-- A check finds no cause exactly where the files are those that they must be. So it finds none in the files of a checked run.
+use Rattle.lab_compare.specs.Prelude.{ap, arith, drop, Err, false, length, List, map, refl, sym, take, true, ℕ, [], ◌+◌, ◌∙◌, ◌∷◌, ◌≡◌, ◌≤◌, take_all}
+use Rattle.lab_compare.specs.Prelude.{bytes_eq-Decides, Decides, option_map, Bool, None, Ok, Option, Result, Some, unwrap_or, ℤ, ◌↔◌, bytes_eq, canonical}
+use Rattle.lab_compare.specs.Prelude.{bytes_under, Files, Report, CardLine, ReaderLine, IsChecked, recorded_sounds, run_sounds, most_of_report, tested_report}
+use Rattle.lab_compare.specs.Prelude.{line_of_end, line_of_played, played_samples, reader_samples, readers_samples, run_samples, bytes_or_cause, Cause}
+use Rattle.lab_compare.specs.Prelude.{first_bytes, ◌>>=◌, input_in, RunInput, OutputFile, finished_file, output_files, played_file, reader_channels}
+use Rattle.lab_compare.specs.Prelude.{recorded_file, as_tested, check_in, HoldsRun, is_same_in, outputs_in, played_in, recording_in, recordings_in, same_in}
+use Rattle.lab_compare.specs.Prelude.{same_or_line, tested_in}
 use Rattle.std.proofs.lemmas.List.FromFn.{length-range_with_len}
 use Rattle.std.specs.List.{range_with_len}
 use Rattle.lab_report.specs.Text.{report_text}
 use Rattle.lab_run.specs.LabRun.{Outcome}
+use Rattle.lab_run.specs.Openings.{read_by}
 use Rattle.lab_check.specs.Runs.{samples_of_run}
+use Rattle.lab_check.proofs.Compared.{whole}
 use Rattle.lab_compare.proofs.Checks.{few-bytes}
 
 -- ---- the bytes of a file
@@ -19,30 +22,37 @@ first-all m name content most held low =
     ap (λ (o : Option (List ℕ)). bytes_or_cause name (option_map (λ (c : List ℕ). take most (drop 0 c)) o)) held
     ∙ ap (λ (c : List ℕ). Ok c) (take_all most content low)
 
-same-bytes : (bytes : List ℕ) → bytes_eq bytes bytes ≡ true
-same-bytes bytes = (bytes_eq-Decides bytes bytes).1 refl
-
-is_same-held : (m : Files) (file : OutputFile) (samples : List ℤ) → bytes_under m file.name ≡ Some (finished_file file samples) → is_same_in m file samples ≡ Ok true
-unfolding is_same_in
-is_same-held m file samples held = by_content (finished_file file samples) held
+-- the test of a file passes exactly where the file is the other one, of which one byte more is looked at
+bytes-tell : (line : ℕ) (content : Option (List ℕ)) (name expected : List ℕ)
+    → (((bytes_or_cause name (option_map (λ (c : List ℕ). take (length expected + 1) (drop 0 c)) content) >>= λ bytes. Ok (bytes_eq bytes expected)) >>= λ same. same_or_line line same) ≡ Ok tt)
+    ↔ (content ≡ Some expected)
+bytes-tell line None name expected = (λ is. absurd cc, λ is. absurd cc)
+bytes-tell line (Some content) name expected = by_test (bytes_eq (take (length expected + 1) content) expected) (bytes_eq-Decides (take (length expected + 1) content) expected)
   where
-    by_content : (expected : List ℕ) → bytes_under m file.name ≡ Some expected
-        → (first_bytes m file.name (length expected + 1) >>= λ bytes. Ok (bytes_eq bytes expected)) ≡ Ok true
-    by_content expected is =
-        ap (λ (r : Result (List ℕ) Cause). r >>= λ bytes. Ok (bytes_eq bytes expected)) (first-all m file.name expected (length expected + 1) is (omega arith))
-        ∙ ap (λ (b : Bool). Ok b) (same-bytes expected)
+    by_test : (b : Bool) → Decides b (take (length expected + 1) content ≡ expected) → (same_or_line line b ≡ Ok tt) ↔ (Some content ≡ Some expected)
+    by_test true tells = (λ is. ap (λ (c : List ℕ). Some c) ((whole content expected).0 (tells.0 refl)), λ is. refl)
+    by_test false tells = (
+      λ is. absurd cc,
+      λ is. let same : content ≡ expected = cc in let wrong : false ≡ true = tells.1 ((whole content expected).1 same) in absurd cc,
+    )
 
-same-held : (m : Files) (line : ℕ) (file : OutputFile) (samples : List ℤ) → bytes_under m file.name ≡ Some (finished_file file samples) → same_in m line file samples ≡ Ok tt
-unfolding same_in
-same-held m line file samples held = ap (λ (r : Result Bool Cause). r >>= λ same. same_or_line line same) (is_same-held m file samples held)
+same-tells : (m : Files) (line : ℕ) (file : OutputFile) (samples : List ℤ)
+    → (same_in m line file samples ≡ Ok tt) ↔ (bytes_under m file.name ≡ Some (finished_file file samples))
+unfolding same_in is_same_in
+same-tells m line file samples = bytes-tell line (bytes_under m file.name) file.name (finished_file file samples)
+
+-- two tests pass exactly where both do
+both-tell : (first rest : Result (Unit {0}) Cause) → ((first >>= λ done. rest) ≡ Ok tt) ↔ ((first ≡ Ok tt) × (rest ≡ Ok tt))
+both-tell (Ok done) rest = (λ is. (refl, is), λ both. both.1)
+both-tell (Err e) rest = (λ is. absurd cc, λ both. let wrong = both.0 in absurd cc)
 
 -- ---- the outputs
 
-abbrev contents-in : Files → List OutputFile → List (Option (List ℕ))
+abbrev pub contents-in : Files → List OutputFile → List (Option (List ℕ))
 contents-in m files = map (λ (file : OutputFile). bytes_under m file.name) files
 
 -- a reader has as many channels as bindings
-pub channels-read : (card : CardLine) (bindings : Option (List ℕ)) → reader_channels card bindings ≡ length (unwrap_or bindings (range_with_len 0 card.channels))
+channels-read : (card : CardLine) (bindings : Option (List ℕ)) → reader_channels card bindings ≡ length (unwrap_or bindings (range_with_len 0 card.channels))
 channels-read card None = sym (length-range_with_len 0 card.channels)
 channels-read card (Some bindings) = refl
 
@@ -53,33 +63,37 @@ other-contents : (x y : Option (List ℕ)) (xs ys : List (Option (List ℕ))) �
 other-contents x y xs ys same = cc
 
 module _ (m : Files) (input : RunInput) (out : List ℕ) (report : Report) where
-  recording-passes : (number : ℕ) (reader : ReaderLine)
-      → bytes_under m (recorded_file input.script.card out reader).name
-      ≡ Some (canonical (record { channels = length (read_by input.script.card reader); rate = input.script.card.rate; samples = reader_samples input.script.card input.capture report number reader }))
-      → recording_in m input out report number reader ≡ Ok tt
-  unfolding recording_in
-  recording-passes number reader held = same-held m (line_of_end report) (recorded_file input.script.card out reader) (reader_samples input.script.card input.capture report number reader)
-      (held ∙ ap (λ (n : ℕ). Some (canonical (record { channels = n; rate = input.script.card.rate; samples = reader_samples input.script.card input.capture report number reader })))
-      (sym (channels-read input.script.card reader.bindings)))
+  recordings-tell : (number : ℕ) (readers : List ReaderLine) → (recordings_in m input out report number readers ≡ Ok tt)
+      ↔ (contents-in m (map (recorded_file input.script.card out) readers)
+      ≡ map (λ (c : List ℕ). Some c) (map canonical (recorded_sounds input.script.card readers (readers_samples input.script.card input.capture report number readers))))
+  unfolding recordings_in recording_in
+  recordings-tell number [] = (λ is. refl, λ is. refl)
+  recordings-tell number (reader ∷ readers) =
+      let samples : List ℤ = reader_samples input.script.card input.capture report number reader in
+      let file : OutputFile = recorded_file input.script.card out reader in
+      let as_read : ℕ → Option (List ℕ) = λ n. Some (canonical (record { channels = n; rate = input.script.card.rate; samples = samples })) in
+      let sound : Some (finished_file file samples) ≡ as_read (length (read_by input.script.card reader)) = ap as_read (channels-read input.script.card reader.bindings) in
+      let steps = both-tell (same_in m (line_of_end report) file samples) (recordings_in m input out report (number + 1) readers) in
+      let first = same-tells m (line_of_end report) file samples in
+      let others = recordings-tell (number + 1) readers in (
+        λ is. ap (λ (o : Option (List ℕ)). o ∷ contents-in m (map (recorded_file input.script.card out) readers)) (first.0 (steps.0 is).0 ∙ sound)
+            ∙ ap (λ (l : List (Option (List ℕ))). as_read (length (read_by input.script.card reader)) ∷ l) (others.0 (steps.0 is).1),
+        λ held. steps.1 (first.1 (first-content _ _ _ _ held ∙ sym sound), others.1 (other-contents _ _ _ _ held)),
+      )
 
-  recordings-pass : (number : ℕ) (readers : List ReaderLine)
-      → contents-in m (map (recorded_file input.script.card out) readers)
-      ≡ map (λ (c : List ℕ). Some c) (map canonical (recorded_sounds input.script.card readers (readers_samples input.script.card input.capture report number readers)))
-      → recordings_in m input out report number readers ≡ Ok tt
-  unfolding recordings_in
-  recordings-pass number [] held = refl
-  recordings-pass number (reader ∷ readers) held =
-      ap (λ (r : Result (Unit {0}) Cause). r >>= λ same. recordings_in m input out report (number + 1) readers) (recording-passes number reader (first-content _ _ _ _ held))
-      ∙ recordings-pass (number + 1) readers (other-contents _ _ _ _ held)
-
-  outputs-pass : contents-in m (output_files input.script out)
-      ≡ map (λ (c : List ℕ). Some c) (map canonical (run_sounds input.script (run_samples input.script input.sounds input.capture report)))
-      → outputs_in m input out report ≡ Ok tt
+  pub outputs-tell : (outputs_in m input out report ≡ Ok tt) ↔ (contents-in m (output_files input.script out)
+      ≡ map (λ (c : List ℕ). Some c) (map canonical (run_sounds input.script (run_samples input.script input.sounds input.capture report))))
   unfolding outputs_in played_in
-  outputs-pass held =
-      ap (λ (r : Result (Unit {0}) Cause). r >>= λ played. recordings_in m input out report 0 input.script.readers)
-      (same-held m (line_of_played report) (played_file input.script.card out) (played_samples input.script input.sounds report) (first-content _ _ _ _ held))
-      ∙ recordings-pass 0 input.script.readers (other-contents _ _ _ _ held)
+  outputs-tell =
+      let samples : List ℤ = played_samples input.script input.sounds report in
+      let file : OutputFile = played_file input.script.card out in
+      let steps = both-tell (same_in m (line_of_played report) file samples) (recordings_in m input out report 0 input.script.readers) in
+      let first = same-tells m (line_of_played report) file samples in
+      let others = recordings-tell 0 input.script.readers in (
+        λ is. ap (λ (o : Option (List ℕ)). o ∷ contents-in m (map (recorded_file input.script.card out) input.script.readers)) (first.0 (steps.0 is).0)
+            ∙ ap (λ (l : List (Option (List ℕ))). Some (finished_file file samples) ∷ l) (others.0 (steps.0 is).1),
+        λ held. steps.1 (first.1 (first-content _ _ _ _ held), others.1 (other-contents _ _ _ _ held)),
+      )
 
 -- ---- the report
 
@@ -100,7 +114,7 @@ unfolding check_in
 checked-passes m script name out input text contents read held outputs checked =
     ap (λ (r : Result RunInput Cause). r >>= λ given. tested_in m given name >>= λ passed. outputs_in m given out passed) read
     ∙ ap (λ (r : Result Report Cause). r >>= λ passed. outputs_in m input out passed) (tested-passes m input name text checked.report held checked.passes)
-    ∙ outputs-pass m input out checked.report (outputs ∙ ap (map (λ (c : List ℕ). Some c)) checked.files_are)
+    ∙ (outputs-tell m input out checked.report).1 (outputs ∙ ap (map (λ (c : List ℕ). Some c)) checked.files_are)
 
 -- the files of a run, where that is a checked one
 pub run-passes : (m : Files) (script name out : List ℕ) (input : RunInput) (outcome : Outcome) → HoldsRun m script name out input outcome

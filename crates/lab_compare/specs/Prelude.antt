@@ -1,13 +1,13 @@
 -- The names that most proofs of this crate cite, passed on from one place. Declares nothing.
 pub use Rattle.std.proofs.Common.{add-one, ap, arith, cond, drop, drop-cons, Err, false, get_or, inl, inr, length, length-drop, length-take, List, map, refl}
-pub use Rattle.std.proofs.Common.{subst, suc, sym, take, true, zero, ℕ, [], ◌%◌, ◌*◌, ◌+◌, ◌-◌, ◌<◌, ◌∙◌, ◌∷◌, ◌≡◌, ◌≤◌, ◌⊎◌}
+pub use Rattle.std.proofs.Common.{subst, suc, sym, take, true, ℕ, [], ◌%◌, ◌*◌, ◌+◌, ◌-◌, ◌<◌, ◌∙◌, ◌∷◌, ◌≡◌, ◌≤◌, ◌⊎◌}
 pub use Rattle.std.proofs.lemmas.Bool.Decides.{nat_tests}
 pub use Rattle.std.proofs.lemmas.List.{drop_all, take_all}
 pub use Rattle.std.proofs.lemmas.Option.{get_or_from_slice_get, slice_get_read, slice_get_within}
 pub use Rattle.std.proofs.lemmas.Slice.Eq.{bytes_eq-Decides}
+pub use Rattle.std.specs.Bool.{Decides, one_answer}
 pub use Rattle.std.specs.Option.{ForSome, option_map}
-pub use Rattle.std.specs.Prelude.{All, Bool, IfOk, if◌then◌else◌, min, nat_le, None, Ok, OnOk, Option, Result, slice_get, slice_index_or, Some, unwrap_or, ℤ}
-pub use Rattle.std.specs.Prelude.{◌&&◌}
+pub use Rattle.std.specs.Prelude.{All, Bool, IfOk, min, None, Ok, OnOk, Option, Result, slice_get, slice_index_or, Some, unwrap_or, ℤ, ◌&&◌, ◌↔◌}
 pub use Rattle.std.specs.Str.{bytes_eq}
 pub use Rattle.wav_io.specs.Canonical.{canonical}
 pub use Rattle.wav_io.specs.Sound.{Sound}
@@ -16,11 +16,9 @@ pub use Rattle.lab_lines.specs.declared.report.Report.{Report}
 pub use Rattle.lab_lines.specs.declared.script.CardLine.{CardLine}
 pub use Rattle.lab_lines.specs.declared.script.ReaderLine.{ReaderLine}
 pub use Rattle.lab_lines.specs.declared.script.Script.{Script}
-pub use Rattle.lab_run.specs.Openings.{read_by}
 pub use Rattle.lab_check.specs.Checked.{IsChecked, recorded_sounds, run_sounds}
 pub use Rattle.lab_check.specs.Defects.{HasTestedRuns, HasTestedSegments, most_of_report, tested, tested_report}
 pub use Rattle.lab_check.specs.Lines.{line_of_end, line_of_played}
-pub use Rattle.lab_check.specs.Pieces.{IsSameFile, IsSameUpTo}
 pub use Rattle.lab_check.specs.Samples.{played_samples, reader_samples, readers_samples, run_samples}
 pub use Rattle.lab_stop.specs.Causes.{bytes_or_cause, Cause, fetched_from, first_bytes, ◌>>=◌}
 pub use Rattle.lab_stop.specs.Effects.{IsSameShelf}

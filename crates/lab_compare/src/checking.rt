@@ -8,8 +8,8 @@ ghost use Rattle.lab_compare.specs.Checking.{IsCheckedRun, IsReportIn, check_in,
 
 use crate::comparison::check_file;
 use lab_check::{
-    CheckError, checked_runs_show, line_of_end, line_of_played, pieces_tell_files, played_samples,
-    reader_samples, tested_report,
+    CheckError, checked_runs_show, line_of_end, line_of_played, played_samples, reader_samples,
+    tested_report,
 };
 use lab_input::{Input, read_input};
 use lab_lines::{ReaderLine, Report};
@@ -155,7 +155,6 @@ pub fn check_run<S: Shelf>(
     ensures only_tests { OnlyTests S.Shelf result shelf.old shelf.new }
 {
     checked_runs_show();
-    pieces_tell_files();
     let input = read_input(shelf, alloc, script)?;
     let tested = load_report(shelf, alloc, &input, report)?;
     check_outputs(shelf, alloc, &input, &tested, out)

@@ -2,7 +2,7 @@
 -- from a frame on.
 use Rattle.lab_run.specs.Prelude.{ap, arith, length, None, Option, refl, Some, subst, sym, ℕ, ◌+◌, ◌-◌, ◌∙◌, ◌≡◌, ◌≤◌, Bool, Err, false, if◌then◌else◌, List}
 use Rattle.lab_run.specs.Prelude.{min, nat_eq, Ok, OnOk, Result, suc, true, unwrap_or, zero, ℤ, [], ◌∷◌, PcmError, Cursor, rising, Call, State, Draining}
-use Rattle.lab_run.specs.Prelude.{Prepared, Running, Playback, is_moving, refusal_of, Ended, Late, Stopped, Whole, Position, Course, ends, ◌>>=◌, Commit}
+use Rattle.lab_run.specs.Prelude.{Prepared, Running, Setup, Playback, is_moving, refusal_of, Ended, Late, Stopped, Whole, Position, Course, ends, ◌>>=◌, Commit}
 use Rattle.lab_run.specs.Prelude.{PlaybackStream, accepted_if, after_drop, after_pause, after_prepare, after_resume, after_start, after_sync, Answered}
 use Rattle.lab_run.specs.Prelude.{avail_answer, avail_in, commit_count, delay_answer, delay_in, has_frames, in_draining, is_running, pending_of, start_count}
 use Rattle.lab_run.specs.Prelude.{started_in, sync_count, taken_of, with_accepted, with_new_base, with_number, written_after, admitted_by, commit_at, commits}
@@ -12,7 +12,6 @@ use Rattle.lab_run.specs.Prelude.{sync_course, syncs, takes_more, write_on, writ
 use Rattle.lab_run.specs.Prelude.{rewind_on, rewindable_course, rewindable_of, rewinds, take_each, take_frames, takes_back, without_frames, ring_sample}
 use Rattle.lab_run.specs.Prelude.{count_with, frames_in, ring_with, starts_with, Answer, Alike, CallsAreAlike, IsFromOn, SameButMember, SameFrom, count_answer}
 use Rattle.lab_run.specs.Prelude.{done_answer, write_course, with_member}
-use Rattle.pcm_states.specs.declared.states.State.TheVariants.{Setup}
 use Rattle.lab_run.proofs.AlikeLaws.{Alike-if, Alike-then, without_word}
 use Rattle.lab_run.proofs.ReportedWords.{accepted_if-alike, commit_without_word, resumed-word, rewound-word, after_start-word, after_sync-word, with_number-alike, written_after-word}
 use Rattle.pcm_states.specs.declared.calls.Call.TheVariants as call

@@ -1,21 +1,15 @@
 -- A claim is granted exactly where its channels have no owner and are silent.
-use Rattle.lab_run.specs.Prelude.{arith, None, Option, refl, Some, ℕ, ◌<◌, ◌≡◌, and_from, and_parts, false≢true, nat_tests, AllByRecursion, list_all, Bool}
+use Rattle.lab_run.specs.Prelude.{ap, None, Option, refl, Some, ℕ, ◌<◌, ◌≡◌, and_from, and_parts, false≢true, lt-ltb, ltb-true, AllByRecursion, list_all, Bool}
 use Rattle.lab_run.specs.Prelude.{false, if◌then◌else◌, is_none, List, nat_lt, true, [], ◌∷◌, PcmError, ClaimIsOwners, is_free_channel}
 use Rattle.dshare.specs.Owners.{AreFree, ClaimRow, busy, last_frames, owner_of}
 
 silent : (position : ℕ) (frames : List ℕ) → list_all (λ frame. nat_lt frame position) frames ≡ true → AllByRecursion (λ frame. frame < position) frames
 silent position [] is = tt
-silent position (frame ∷ frames) is = (before (and_parts _ _ is).0, silent position frames (and_parts _ _ is).1)
-  where
-    before : nat_lt frame position ≡ true → frame < position
-    before e = grind (arith, nat_tests)
+silent position (frame ∷ frames) is = (ltb-true frame position (and_parts _ _ is).0, silent position frames (and_parts _ _ is).1)
 
 silent-test : (position : ℕ) (frames : List ℕ) → AllByRecursion (λ frame. frame < position) frames → list_all (λ frame. nat_lt frame position) frames ≡ true
 silent-test position [] all = refl
-silent-test position (frame ∷ frames) all = and_from _ _ (before all.0) (silent-test position frames all.1)
-  where
-    before : frame < position → nat_lt frame position ≡ true
-    before e = grind (arith, nat_tests)
+silent-test position (frame ∷ frames) all = and_from _ _ (lt-ltb frame position all.0) (silent-test position frames all.1)
 
 no-owner : (owner : Option ℕ) → is_none owner ≡ true → owner ≡ None
 no-owner None is = refl
@@ -33,10 +27,7 @@ free claims position (c ∷ channels) is = (
 
 free-test : (claims : List ClaimRow) (position : ℕ) (channels : List ℕ) → AreFree claims position channels → list_all (is_free_channel claims position) channels ≡ true
 free-test claims position [] all = refl
-free-test claims position (c ∷ channels) all = and_from _ _ (and_from _ _ (unowned all.0.unowned) (silent-test position (last_frames claims c) all.0.silent)) (free-test claims position channels all.1)
-  where
-    unowned : owner_of claims c ≡ None → is_none (owner_of claims c) ≡ true
-    unowned e = rw e refl
+free-test claims position (c ∷ channels) all = and_from _ _ (and_from _ _ (ap is_none all.0.unowned) (silent-test position (last_frames claims c) all.0.silent)) (free-test claims position channels all.1)
 
 pub claim-owners : (claims : List ClaimRow) (channels : List ℕ) (position : ℕ) → ClaimIsOwners claims channels position
 claim-owners claims channels position = record {

@@ -2,8 +2,8 @@
 use Rattle.lab_run.specs.Prelude.{ap, Option, refl, Some, subst, sym, ℕ, ◌∙◌, ◌≡◌, false, List, Result, true, ℤ, ◌++◌, PcmError, Geometry, Cursor, Segment}
 use Rattle.lab_run.specs.Prelude.{Composes, Marks, Entry, ShowsFrom, LaysAt, LoadsAt, NoGet, TakesAt, Course, ends, Takes, ◌>>=◌, Takes-map, PlaybackStream}
 use Rattle.lab_run.specs.Prelude.{Answered, if_admitted, Sound, Op, Answer, DoesGet, DoesLay, DoesLoad, Doing, Alike, CallsAreAlike, SameButMember, SameFrom}
-use Rattle.lab_run.specs.Prelude.{after_call, begins, call_answer, call_of, Client, count_answer, dies_if, done_answer, line_by, line_if, write_course}
-use Rattle.lab_run.specs.Prelude.{after_seat_call, ClientLinesAreParts, is_die, IsOffered, made_call, MakesCall, with_member, CountsDown, MarksAlike, AtPort}
+use Rattle.lab_run.specs.Prelude.{after_call, begins, call_answer, call_of, Client, count_answer, done_answer, line_by, write_course, after_seat_call}
+use Rattle.lab_run.specs.Prelude.{ClientLinesAreParts, IsOffered, made_call, MakesCall, with_member, CountsDown, MarksAlike, AtPort}
 use Rattle.lab_run.proofs.AlikeLaws.{Alike-then}
 use Rattle.lab_run.proofs.CallsAlike.{calls-alike}
 use Rattle.lab_run.proofs.MarksLaws.{cursor-same, floor-same}
@@ -59,20 +59,12 @@ call-alike ring from member before wav held samples own port c asked marks = by_
 line-is_call : (wav : Sound) (marks : Marks) (client : Client) (c : PlaybackStream) (asked : Op) → MakesCall client c asked
     → line_by wav marks client client.own asked ≡ (call_of wav marks c asked >>= λ done. ends (after_call client c asked done))
 unfolding ◌>>=◌
-line-is_call wav marks client c asked makes =
-    ap (λ own. line_by wav marks client own asked) makes.is_open ∙ ap (λ stopped. line_if stopped wav marks client c asked) makes.goes ∙ by_op asked makes.asks
-  where
-    by_op : (asked : Op) → is_die asked ≡ false
-        → line_if false wav marks client c asked ≡ (call_of wav marks c asked >>= λ done. ends (after_call client c asked done))
-    by_op (op.Die k) asks = absurd (cc)
-    by_op other asks = refl
+line-is_call wav marks client c (op.Die k) makes = absurd (let asks = makes.asks in cc)
+line-is_call wav marks client c other makes = rw (makes.is_open, makes.goes) refl
 
 begins-same : (client : Client) (c : PlaybackStream) (asked : Op) (a : AtPort) → MakesCall client c asked → begins client.own asked a ≡ a
-begins-same client c asked a makes = ap (λ own. begins own asked a) makes.is_open ∙ ap (λ stopped. dies_if stopped asked a) makes.goes ∙ by_op asked makes.asks
-  where
-    by_op : (asked : Op) → is_die asked ≡ false → dies_if false asked a ≡ a
-    by_op (op.Die k) asks = absurd (cc)
-    by_op other asks = refl
+begins-same client c (op.Die k) a makes = absurd (let asks = makes.asks in cc)
+begins-same client c other a makes = rw (makes.is_open, makes.goes) refl
 
 -- a course was taken in an actor's part
 module _ (ring : Geometry) where

@@ -1,8 +1,8 @@
 -- The lines of an actor in a phase, and the lines of all actors of a kind: there is always one way to do them, and where the phase leaves
 -- no choice there is but one.
-use Rattle.lab_run.specs.Prelude.{ap, arith, inl, inr, refl, subst, sym, ℕ, ◌+◌, ◌∙◌, ◌≡◌, ◌≤◌, ◌⊎◌, Bool, Contains, false, List, map, true, [], ⊤, ◌++◌, ◌∷◌}
-use Rattle.lab_run.specs.Prelude.{Geometry, Op, Answer, Row, Client, IsStill, is_reader_stopped, is_stopped, reaped_client, reaped_client_if, reaped_reader}
-use Rattle.lab_run.specs.Prelude.{reaped_reader_if, each_text, EachMay, Kind, line_text, LineMay, lines_text, LinesMay, Reader, AtPort, CardEnd, Rules}
+use Rattle.lab_run.specs.Prelude.{ap, arith, inl, inr, refl, subst, sym, ℕ, ◌+◌, ◌∙◌, ◌≡◌, ◌≤◌, ◌⊎◌, nat_tests, Contains, false, List, map, [], ⊤, ◌++◌, ◌∷◌}
+use Rattle.lab_run.specs.Prelude.{Geometry, Op, Answer, Row, IsStill, reaped_client, reaped_reader, each_text, EachMay, Kind, line_text, LineMay, lines_text}
+use Rattle.lab_run.specs.Prelude.{LinesMay, AtPort, CardEnd, Rules}
 use Rattle.lab_run.proofs.ActorKinds.{IsKind}
 use Rattle.lab_run.proofs.CourseExists.{May-text}
 use Rattle.lab_run.proofs.CourseUnique.{May-more, May-only}
@@ -169,39 +169,27 @@ each-grow kind is rules ops number (actor ∷ actors) after rows (own, others, o
 
 -- ---- actors that are reaped
 
--- each actor's port is as it was, or new: it saw no more, and its own gate stopped it as often
-pub record KeepsPorts {S : Type 0} (f : AtPort × S → AtPort × S) : Type 0 where
-  pub seen : (x : AtPort × S) → (f x).0.seen ≤ x.0.seen
-  pub by_gate : (x : AtPort × S) → (f x).0.by_gate ≡ x.0.by_gate
+-- a port is as it was, or new: it saw no more, and its own gate stopped it as often
+pub record KeepsPort (a b : AtPort) : Type 0 where
+  pub seen : b.seen ≤ a.seen
+  pub by_gate : b.by_gate ≡ a.by_gate
+
+-- so is each actor's
+abbrev pub KeepsPorts : {S : Type 0} → (AtPort × S → AtPort × S) → Type 0
+KeepsPorts {S} f = (x : AtPort × S) → KeepsPort x.0 (f x).0
 
 pub reaped_client-keeps : (ring : Geometry) → KeepsPorts (reaped_client ring)
-reaped_client-keeps ring = record { seen = λ x. seen (is_stopped x.1.own) x; by_gate = λ x. by_gate (is_stopped x.1.own) x }
-  where
-    seen : (stopped : Bool) (x : AtPort × Client) → (reaped_client_if stopped ring x).0.seen ≤ x.0.seen
-    seen true x = omega arith
-    seen false x = omega arith
-
-    by_gate : (stopped : Bool) (x : AtPort × Client) → (reaped_client_if stopped ring x).0.by_gate ≡ x.0.by_gate
-    by_gate true x = refl
-    by_gate false x = refl
+reaped_client-keeps ring x = grind (arith, nat_tests)
 
 pub reaped_reader-keeps : (ring : Geometry) → KeepsPorts (reaped_reader ring)
-reaped_reader-keeps ring = record { seen = λ x. seen (is_reader_stopped x.1.own) x; by_gate = λ x. by_gate (is_reader_stopped x.1.own) x }
-  where
-    seen : (stopped : Bool) (x : AtPort × Reader) → (reaped_reader_if stopped ring x).0.seen ≤ x.0.seen
-    seen true x = omega arith
-    seen false x = omega arith
-
-    by_gate : (stopped : Bool) (x : AtPort × Reader) → (reaped_reader_if stopped ring x).0.by_gate ≡ x.0.by_gate
-    by_gate true x = refl
-    by_gate false x = refl
+reaped_reader-keeps ring x = grind (arith, nat_tests)
 
 pub behind-map : {S : Type 0} (f : AtPort × S → AtPort × S) → KeepsPorts f → (Q : ℕ → ℕ → Type 0) (p number : ℕ) (actors : List (AtPort × S))
     → AreBehind Q p number actors → AreBehind Q p number (map f actors)
 behind-map f keeps Q p number [] low = tt
 behind-map f keeps Q p number (x ∷ actors) low =
-    (omega (arith, keeps.seen x, low.0), subst (Q number) (sym (keeps.by_gate x)) low.1, behind-map f keeps Q p (number + 1) actors low.2)
+    (omega (arith, (keeps x).seen, low.0), subst (Q number) (sym (keeps x).by_gate) low.1, behind-map f keeps Q p (number + 1) actors low.2)
 
 pub grow-map : {S : Type 0} (f : AtPort × S → AtPort × S) → KeepsPorts f → (actors : List (AtPort × S)) → StopsGrow actors (map f actors)
 grow-map f keeps [] = tt
-grow-map f keeps (x ∷ actors) = (omega (arith, keeps.by_gate x), grow-map f keeps actors)
+grow-map f keeps (x ∷ actors) = (omega (arith, (keeps x).by_gate), grow-map f keeps actors)

@@ -13,6 +13,7 @@ pub mod EachLine
 pub mod Leads
 pub mod MarksLaws
 pub mod MemberLaws
+pub mod OneSession
 pub mod PartLaws
 pub mod PartsGrow
 pub mod PortLaws

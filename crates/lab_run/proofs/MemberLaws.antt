@@ -1,33 +1,20 @@
 -- A client's member is in no report, and changes no frame, channel or sample that is placed.
-use Rattle.lab_run.specs.Prelude.{ap, length, refl, sym, take, ℕ, ◌+◌, ◌∙◌, ◌≡◌, map-append, flat_map, range_with_len, Bool, false, filter, List, map, true, ℤ}
-use Rattle.lab_run.specs.Prelude.{[], ◌++◌, ◌∷◌, rising, Entry, is_at, sum_of_samples, value_of, PlaybackStream, Op, Answer, Done, ended_by}
+use Rattle.lab_run.specs.Prelude.{ap, arith, length, refl, sym, take, ℕ, ◌+◌, ◌∙◌, ◌≡◌, nat_tests, map-append, flat_map, range_with_len, Bool, false, filter}
+use Rattle.lab_run.specs.Prelude.{List, map, true, ℤ, [], ◌++◌, ◌∷◌, rising, Entry, is_at, sum_of_samples, value_of, PlaybackStream, Op, Answer, ended_by}
 use Rattle.lab_run.specs.Prelude.{MembersAreUnreported, MembersLayAlike, of_member, with_member}
+use Rattle.std.proofs.lemmas.Simd.{map-map}
 use Rattle.dmix_client.specs.Expansion.{frame_entries, run_entries, sample_at}
-use Rattle.lab_lines.specs.declared.line.Op.TheVariants as op
 
 pub ended-member : (member : ℕ) (asked : Op) (answer : Answer) (c d : PlaybackStream) → ended_by asked answer (with_member member c) (with_member member d) ≡ ended_by asked answer c d
-ended-member member op.Prepare Done c d = refl
-ended-member member op.Prepare other c d = refl
-ended-member member op.Resume answer c d = refl
-ended-member member other answer c d = refl
+ended-member member other answer c d = grind (arith, nat_tests)
 
 pub members-unreported : (member : ℕ) → MembersAreUnreported member
-members-unreported member = record {
-  opening = λ ring other setup. refl;
-  row = λ phase number asked c answer. refl;
-  stretch = λ c. refl;
-  ended = ended-member member;
-}
-
--- a function of each member of a list, after another one
-map-after : {X Y Z : Type 0} (f : Y → Z) (g : X → Y) (xs : List X) → map f (map g xs) ≡ map (λ x. f (g x)) xs
-map-after f g [] = refl
-map-after f g (x ∷ xs) = ap (λ ys. f (g x) ∷ ys) (map-after f g xs)
+members-unreported member = grind (arith, nat_tests)
 
 module _ (member other : ℕ) where
   frame-entries_member : (bindings : List ℕ) (sample_of : ℕ → ℤ) (channels card : ℕ)
       → frame_entries member bindings sample_of channels card ≡ map (of_member member) (frame_entries other bindings sample_of channels card)
-  frame-entries_member bindings sample_of channels card = sym (map-after (of_member member) _ (take channels (rising bindings)))
+  frame-entries_member bindings sample_of channels card = sym (map-map (of_member member) _ (take channels (rising bindings)))
 
   frames-member : (bindings : List ℕ) (sample_of : ℕ → ℕ → ℤ) (card channels : ℕ) (frames : List ℕ)
       → flat_map (λ j. frame_entries member bindings (sample_of j) channels (card + j)) frames

@@ -1,9 +1,8 @@
 -- What each call of a reader leaves, where a fact may speak of what its steps did: by what the parts of a call leave.
 --     Parts      what the parts of a reader's calls leave
-use Rattle.lab_run.specs.Prelude.{None, Option, refl, Some, ℕ, ◌≡◌, Bool, Err, false, if◌then◌else◌, nat_le, Ok, true, PcmError, Call, Prepared, Capture}
+use Rattle.lab_run.specs.Prelude.{None, Option, refl, Some, ℕ, ◌≡◌, Bool, Err, false, if◌then◌else◌, nat_le, Ok, true, PcmError, Call, Prepared, Setup, Capture}
 use Rattle.lab_run.specs.Prelude.{refusal_of, Course, ends, CaptureStream, in_state, waits, with_avail, avail_course, counts, read_course, reads_first}
 use Rattle.lab_run.specs.Prelude.{reads_on, transfer_on, Op, Answer, Failed, count_answer, done_answer}
-use Rattle.pcm_states.specs.declared.states.State.TheVariants.{Setup}
 use Rattle.dsnoop_client.specs.Calls.{Answered}
 use Rattle.dsnoop_client.specs.Course.{admitted_by, if_admitted, starts, sync_course, syncs}
 use Rattle.dsnoop_client.specs.View.{is_running}

@@ -1,26 +1,18 @@
 -- What the calls of a reader do loads a position before it gets a frame.
-use Rattle.lab_run.specs.Prelude.{None, Option, refl, Some, ℕ, ◌+◌, Bool, Err, Ok, suc, true, zero, Call, Position, Got, Overtaken, Course, ends, CaptureStream}
-use Rattle.lab_run.specs.Prelude.{read_after, get_on, gets_frames, transfer_on, transfers}
+use Rattle.lab_run.specs.Prelude.{arith, refl, ℕ, ◌+◌, nat_tests, Bool, Err, Ok, suc, true, zero, Call, Got, Overtaken, Course, ends, CaptureStream, read_after}
+use Rattle.lab_run.specs.Prelude.{get_on, gets_frames, transfer_on, transfers}
 use Rattle.snoop_core.specs.declared.port.Got.TheVariants.{Whole, Stopped}
-use Rattle.dsnoop_client.specs.Calls.{Answered, after_start, after_sync, taken_of}
+use Rattle.dsnoop_client.specs.Calls.{Answered, taken_of}
 use Rattle.dsnoop_client.specs.Course.{one_more, starts, syncs}
-use Rattle.lab_run.proofs.Leads.{Led, LoadsFirst, OkLed, first-then, is_loaded, on-ok}
+use Rattle.lab_run.proofs.Leads.{Led, LoadsFirst, OkLed, first-then}
 
 pub starts-led : (c : CaptureStream) (call : Call) (loaded : Bool) → Led OkLed loaded (starts c call)
 unfolding starts
-starts-led c call loaded = by_load
-  where
-    by_load : (load : Option Position) → OkLed (is_loaded loaded load) (after_start c call load)
-    by_load None = tt
-    by_load (Some position) = on-ok true (after_start c call (Some position)).1 refl
+starts-led c call loaded = grind (arith, nat_tests)
 
 pub syncs-led : (c : CaptureStream) (call : Call) (loaded : Bool) → Led OkLed loaded (syncs c call)
 unfolding syncs
-syncs-led c call loaded = by_load
-  where
-    by_load : (load : Option Position) → OkLed (is_loaded loaded load) (after_sync c call load)
-    by_load None = tt
-    by_load (Some position) = on-ok true (after_sync c call (Some position)).1 refl
+syncs-led c call loaded = grind (arith, nat_tests)
 
 get_on-first : (got : Got) (rest : Course (ℕ × Got)) → LoadsFirst true rest → LoadsFirst true (get_on got rest)
 get_on-first Whole rest led = first-then true rest (λ end. ends (one_more end)) led (λ l x. tt)

@@ -1,12 +1,11 @@
 -- A reader's line, as the reader did it at its port, is a part of that reader.
-use Rattle.lab_run.specs.Prelude.{ap, Option, refl, Some, subst, sym, ℕ, ◌∙◌, ◌≡◌, false, List, Ok, Result, PcmError, Geometry, Composes, Prepared, Frame}
+use Rattle.lab_run.specs.Prelude.{ap, Option, refl, Some, subst, sym, ℕ, ◌≡◌, List, Ok, Result, PcmError, Geometry, Composes, Prepared, Setup, Frame}
 use Rattle.lab_run.specs.Prelude.{GetsAtSnoop, LoadsAtSnoop, NoLay, TakesAtSnoop, Course, ends, Takes, ◌>>=◌, Takes-map, CaptureStream, in_state, Op, Answer}
-use Rattle.lab_run.specs.Prelude.{DoesGet, DoesLay, DoesLoad, Doing, Alike, SameAnswer, count_answer, dies_if, done_answer, is_die, CountsDown, Reader}
-use Rattle.lab_run.specs.Prelude.{ReaderLinesAreParts, ReadsBy, AtPort}
-use Rattle.pcm_states.specs.declared.states.State.TheVariants.{Setup}
+use Rattle.lab_run.specs.Prelude.{DoesGet, DoesLay, DoesLoad, Doing, Alike, SameAnswer, count_answer, done_answer, CountsDown, Reader, ReaderLinesAreParts}
+use Rattle.lab_run.specs.Prelude.{ReadsBy, AtPort}
 use Rattle.snoop_core.specs.Port.{ShowsFrom}
 use Rattle.dsnoop_client.specs.Calls.{Answered}
-use Rattle.lab_run.specs.Reader.{after_call, call_answer, begins, call_of, line_by, line_if}
+use Rattle.lab_run.specs.Reader.{after_call, call_answer, begins, call_of, line_by}
 use Rattle.lab_run.proofs.AlikeLaws.{Alike-then}
 use Rattle.lab_run.proofs.ReadsAlike.{admitted-alike, at-once, reads-alike}
 use Rattle.lab_run.proofs.SnoopLaws.{course-part_snoop}
@@ -38,19 +37,12 @@ call-alike r other = refl
 line-is_call : (reader : Reader) (r : CaptureStream) (asked : Op) → ReadsBy reader r asked
     → line_by reader reader.own asked ≡ (call_of r asked >>= λ done. ends (after_call reader asked done))
 unfolding ◌>>=◌
-line-is_call reader r asked reads =
-    ap (λ own. line_by reader own asked) reads.is_open ∙ ap (λ stopped. line_if stopped reader r asked) reads.goes ∙ by_op asked reads.asks
-  where
-    by_op : (asked : Op) → is_die asked ≡ false → line_if false reader r asked ≡ (call_of r asked >>= λ done. ends (after_call reader asked done))
-    by_op (op.Die k) asks = absurd (cc)
-    by_op other asks = refl
+line-is_call reader r (op.Die k) reads = absurd (let asks = reads.asks in cc)
+line-is_call reader r other reads = rw (reads.is_open, reads.goes) refl
 
 begins-same : (reader : Reader) (r : CaptureStream) (asked : Op) (a : AtPort) → ReadsBy reader r asked → begins reader.own asked a ≡ a
-begins-same reader r asked a reads = ap (λ own. begins own asked a) reads.is_open ∙ ap (λ stopped. dies_if stopped asked a) reads.goes ∙ by_op asked reads.asks
-  where
-    by_op : (asked : Op) → is_die asked ≡ false → dies_if false asked a ≡ a
-    by_op (op.Die k) asks = absurd (cc)
-    by_op other asks = refl
+begins-same reader r (op.Die k) a reads = absurd (let asks = reads.asks in cc)
+begins-same reader r other a reads = rw (reads.is_open, reads.goes) refl
 
 -- a course was taken in an actor's part
 module _ (ring : Geometry) where

@@ -1,12 +1,12 @@
 -- A report has no more segments than rows, and no more runs than rows.
-use Rattle.lab_run.specs.Prelude.{ap, arith, length, Option, refl, subst, sym, ℕ, ◌+◌, ◌-◌, ◌∙◌, ◌≡◌, ◌≤◌, eq-eqb, append-nil, length-append, length-map}
-use Rattle.lab_run.specs.Prelude.{range_with_len, Bool, false, if◌then◌else◌, List, map, nat_eq, not, slice_index_or, slice_set, suc, true, zero, [], ◌&&◌}
-use Rattle.lab_run.specs.Prelude.{◌++◌, ◌∷◌, BadState, Geometry, Segment, Gives-any, PlaybackStream, is_paused, CaptureStream, Sound, Item, Line, Op, Answer}
-use Rattle.lab_run.specs.Prelude.{Count, Done, Failed, Row, is_of_card, Client, ended_by, present_of, segments_of, stretch_of, client_kinds, is_reader_stopped}
-use Rattle.lab_run.specs.Prelude.{is_stopped, ItemsMay, no_sound, PhaseMay, reader_kinds, reaped_client, reaped_client_if, reaped_reader, reaped_reader_if}
-use Rattle.lab_run.specs.Prelude.{rules_of, joined_runs, runs_of, with_numbers, EachMay, Kind, LineMay, LinesMay, card_rows, is_client, is_reader, ops_by}
-use Rattle.lab_run.specs.Prelude.{frames_by, Reader, AtPort, Rules, first_stage, no_client, no_reader, Session, Stage}
-use Rattle.snd_base.specs.declared.errors.PcmError.TheVariants.{Stopped}
+use Rattle.lab_run.specs.Prelude.{ap, arith, length, Option, refl, subst, sym, ℕ, ◌+◌, ◌-◌, ◌∙◌, ◌≡◌, ◌≤◌, eq-eqb, nat_tests, append-nil, length-append}
+use Rattle.lab_run.specs.Prelude.{length-map, range_with_len, Bool, false, List, map, nat_eq, slice_index_or, slice_set, suc, true, zero, [], ◌++◌, ◌∷◌}
+use Rattle.lab_run.specs.Prelude.{Geometry, Segment, Gives-any, PlaybackStream, CaptureStream, Sound, Item, Line, Op, Answer, Count, Done, Failed, Row}
+use Rattle.lab_run.specs.Prelude.{is_of_card, Client, ended_by, present_of, segments_of, stretch_of, client_kinds, is_stopped, ItemsMay, no_sound, PhaseMay}
+use Rattle.lab_run.specs.Prelude.{reader_kinds, reaped_client, reaped_client_if, reaped_reader, rules_of, joined_runs, runs_of, with_numbers, EachMay, Kind}
+use Rattle.lab_run.specs.Prelude.{LineMay, LinesMay, card_rows, is_client, is_reader, ops_by, frames_by, Reader, AtPort, Rules, first_stage, no_client}
+use Rattle.lab_run.specs.Prelude.{no_reader, Session, Stage}
+use Rattle.snd_base.specs.declared.errors.PcmError.TheVariants.{BadState, Stopped}
 use Rattle.lab_run.specs.ReportSize.{IsWithinRows}
 use Rattle.lab_run.proofs.BorderLaws.{OverItems, items-over}
 use Rattle.lab_run.proofs.EachLine.{client-line, reader-line}
@@ -78,21 +78,11 @@ abbrev segments-at : AtPort × Client → List Segment
 segments-at x = segments_of x.1
 
 stretch-one : (c : PlaybackStream) → length (stretch_of c) ≤ 1
-stretch-one c = by_test (nat_eq c.stretch.committed 0 && nat_eq c.stretch.part 0)
-  where
-    by_test : (b : Bool) → length (if b then [] else Rattle.dmix_client.specs.Calls.segment_of c ∷ []) ≤ 1
-    by_test true = omega arith
-    by_test false = omega arith
+stretch-one c = grind (arith, nat_tests)
 
 -- what a call ends is no more than the stretch before it
 ended-few : (asked : Op) (answer : Answer) (c d : PlaybackStream) → length (ended_by asked answer c d) ≤ length (stretch_of c)
-ended-few op.Prepare Done c d = omega arith
-ended-few op.Resume answer c d = by_test (is_paused c.status.state && not (is_paused d.status.state))
-  where
-    by_test : (b : Bool) → length (if b then stretch_of c else []) ≤ length (stretch_of c)
-    by_test true = omega arith
-    by_test false = omega arith
-ended-few asked answer c d = omega arith
+ended-few asked answer c d = grind (arith, nat_tests)
 
 -- a call makes one segment more at most
 call-few : (ended : List Segment) (c d : PlaybackStream) (asked : Op) (answer : Answer)
@@ -134,76 +124,45 @@ reaped-segments ring (a, client) = by_test (is_stopped client.own)
 abbrev runs-at : AtPort × Reader → List (ℕ × ℕ)
 runs-at x = runs_of x.1.frames
 
--- a run begins at a frame that isn't the one after the last
+-- runs of which the first one begins at a frame
+abbrev Begin : ℕ → List (ℕ × ℕ) → Type 0
+Begin frame [] = ⊥
+Begin frame (run ∷ runs) = run.0 ≡ frame
+
+joined-begins : (frame : ℕ) (runs : List (ℕ × ℕ)) → Begin frame (joined_runs frame runs)
+joined-begins frame runs = grind (arith, nat_tests)
+
+-- a frame is a run of its own, unless the runs begin at the next one
 abbrev break-by : Bool → ℕ
 break-by true = 0
 break-by false = 1
 
-breaks : ℕ → List ℕ → ℕ
-breaks frame [] = 0
-breaks frame (next ∷ frames) = break-by (nat_eq (frame + 1) next) + breaks next frames
+joined-length : (frame next : ℕ) (runs : List (ℕ × ℕ)) → Begin next runs → length (joined_runs frame runs) ≡ break-by (nat_eq (frame + 1) next) + length runs
+joined-length frame next runs begin = grind (arith, nat_tests)
 
-joined-length : (frame next : ℕ) (runs : List (ℕ × ℕ))
-    → length (joined_runs frame (joined_runs next runs)) ≡ break-by (nat_eq (frame + 1) next) + length (joined_runs next runs)
-joined-length frame next [] = by_test (nat_eq (frame + 1) next)
-  where
-    by_test : (b : Bool) → length {A = ℕ × ℕ} (if b then (frame, 1 + 1) ∷ [] else (frame, 1) ∷ (next, 1) ∷ []) ≡ break-by b + 1
-    by_test true = refl
-    by_test false = refl
-joined-length frame next ((first, count) ∷ runs) = by_tests (nat_eq (next + 1) first)
-  where
-    by_first : (at : ℕ × ℕ) (others : List (ℕ × ℕ)) (b : Bool)
-        → length {A = ℕ × ℕ} (if b then (frame, at.1 + 1) ∷ others else (frame, 1) ∷ (next, at.1) ∷ others) ≡ break-by b + suc (length others)
-    by_first at others true = omega arith
-    by_first at others false = omega arith
-
-    by_tests : (b : Bool) → length (joined_runs frame (if b then (next, count + 1) ∷ runs else (next, 1) ∷ (first, count) ∷ runs))
-        ≡ break-by (nat_eq (frame + 1) next) + length {A = ℕ × ℕ} (if b then (next, count + 1) ∷ runs else (next, 1) ∷ (first, count) ∷ runs)
-    by_tests true = by_first (next, count + 1) runs (nat_eq (frame + 1) next)
-    by_tests false = by_first (next, 1) ((first, count) ∷ runs) (nat_eq (frame + 1) next)
-
-runs-length : (frame : ℕ) (frames : List ℕ) → length (runs_of (frame ∷ frames)) ≡ 1 + breaks frame frames
-unfolding breaks
-runs-length frame [] = refl
-runs-length frame (next ∷ frames) =
-    let one = joined-length frame next (runs_of frames) in
-    let more = runs-length next frames in
-    omega (arith, one, more)
+joined-most : (frame : ℕ) (runs : List (ℕ × ℕ)) → length (joined_runs frame runs) ≤ length runs + 1
+joined-most frame runs = grind (arith, nat_tests)
 
 -- frames that are one after the other are one run
-breaks-range : (frame count : ℕ) → breaks frame (range_with_len (frame + 1) count) ≡ 0
-unfolding breaks
-breaks-range frame zero = refl
-breaks-range frame (suc count) =
-    let none = ap (λ b. break-by b) (eq-eqb (frame + 1) (frame + 1) refl) in
-    let more = breaks-range (frame + 1) count in
-    omega (arith, none, more)
-
-break-one : (b : Bool) → break-by b ≤ 1
-break-one true = omega arith
-break-one false = omega arith
-
-breaks-append : (frame : ℕ) (frames : List ℕ) (first count : ℕ) → breaks frame (frames ++ range_with_len first count) ≤ breaks frame frames + 1
-unfolding breaks
-breaks-append frame [] first zero = omega arith
-breaks-append frame [] first (suc count) =
-    let one = break-one (nat_eq (frame + 1) first) in
-    let none = breaks-range first count in
-    omega (arith, one, none)
-breaks-append frame (next ∷ frames) first count = let more = breaks-append next frames first count in omega (arith, more)
+range-one : (first count : ℕ) → length (runs_of (range_with_len first count)) ≤ 1
+range-one first zero = omega arith
+range-one first (suc zero) = omega arith
+range-one first (suc (suc count)) =
+    let more = range-one (first + 1) (suc count) in
+    let next : nat_eq (first + 1) (first + 1) ≡ true = eq-eqb (first + 1) (first + 1) refl in
+    let all = joined-length first (first + 1) (runs_of (range_with_len (first + 1) (suc count))) (joined-begins (first + 1) (runs_of (range_with_len (first + 1 + 1) count))) in
+    omega (arith, more, all, ap break-by next)
 
 -- one slice more is one run more at most
 runs-append : (frames : List ℕ) (first count : ℕ) → length (runs_of (frames ++ range_with_len first count)) ≤ length (runs_of frames) + 1
-runs-append [] first zero = omega arith
-runs-append [] first (suc count) =
-    let all = runs-length first (range_with_len (first + 1) count) in
-    let none = breaks-range first count in
-    omega (arith, all, none)
-runs-append (frame ∷ frames) first count =
-    let before = runs-length frame frames in
-    let after = runs-length frame (frames ++ range_with_len first count) in
-    let few = breaks-append frame frames first count in
-    omega (arith, before, after, few)
+runs-append [] first count = range-one first count
+runs-append (frame ∷ []) first count =
+    let one = range-one first count in let most = joined-most frame (runs_of (range_with_len first count)) in omega (arith, one, most)
+runs-append (frame ∷ next ∷ frames) first count =
+    let more = runs-append (next ∷ frames) first count in
+    let before = joined-length frame next (runs_of (next ∷ frames)) (joined-begins next (runs_of frames)) in
+    let after = joined-length frame next (runs_of (next ∷ frames ++ range_with_len first count)) (joined-begins next (runs_of (frames ++ range_with_len first count))) in
+    omega (arith, more, before, after)
 
 call-runs : (frames : List ℕ) (asked : Op) (answer : Answer) (r : CaptureStream) → length (runs_of (frames ++ frames_by asked answer r)) ≤ length (runs_of frames) + 1
 call-runs frames (op.Read n) (Count count) r = runs-append frames (r.next - count) count
@@ -222,11 +181,7 @@ line-runs phase number rules (a, reader) (b, after) asked answer may =
     same given = omega arith
 
 reaped-runs : (ring : Geometry) (x : AtPort × Reader) → length (runs-at (reaped_reader ring x)) ≤ length (runs-at x)
-reaped-runs ring (a, reader) = by_test (is_reader_stopped reader.own)
-  where
-    by_test : (b : Bool) → length (runs-at (reaped_reader_if b ring (a, reader))) ≤ length (runs_of reader.frames)
-    by_test true = omega arith
-    by_test false = omega arith
+reaped-runs ring (a, reader) = grind (arith, nat_tests)
 
 -- ---- the items
 

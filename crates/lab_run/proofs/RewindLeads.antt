@@ -1,22 +1,15 @@
 -- What a rewind of a client does loads a position before it withdraws anything.
-use Rattle.lab_run.specs.Prelude.{length, None, Option, refl, Some, ℕ, ◌+◌, ◌-◌, ◌≡◌, Bool, Err, List, min, Ok, suc, true, zero, ℤ, Cursor, Ended, Late}
-use Rattle.lab_run.specs.Prelude.{Stopped, Whole, Position, Course, ends, Commit, PlaybackStream, after_sync, Answered, nothing, after_rewind, back_of, back_on}
-use Rattle.lab_run.specs.Prelude.{checks, rewind_on, rewindable_of, take_each, take_frames, take_on, takes_back, ring_sample}
-use Rattle.lab_run.proofs.Leads.{Anything, IsLed, Led, Led-then, LoadsFirst, OkLed, is_loaded, on-ok}
-use Rattle.pcm_states.specs.declared.calls.Call.TheVariants as call
+use Rattle.lab_run.specs.Prelude.{arith, length, refl, ℕ, ◌+◌, ◌-◌, ◌≡◌, nat_tests, Bool, Err, List, min, Ok, suc, true, zero, ℤ, Cursor, Ended, Course, ends}
+use Rattle.lab_run.specs.Prelude.{Commit, PlaybackStream, Answered, after_rewind, back_of, back_on, checks, rewind_on, rewindable_of, take_each, take_frames}
+use Rattle.lab_run.specs.Prelude.{take_on, takes_back, ring_sample}
+use Rattle.lab_run.proofs.Leads.{Anything, IsLed, Led, Led-then, LoadsFirst, OkLed}
 
 pub checks-led : (c : PlaybackStream) (loaded : Bool) → Led OkLed loaded (checks c)
 unfolding checks
-checks-led c loaded = by_load
-  where
-    by_load : (load : Option Position) → OkLed (is_loaded loaded load) (after_sync c call.Transfer load nothing)
-    by_load None = tt
-    by_load (Some position) = on-ok true (after_sync c call.Transfer (Some position) nothing).1 refl
+checks-led c loaded = grind (arith, nat_tests)
 
 take_on-led : (ended : Ended) (n : ℕ) (rest : Course (ℕ × Ended)) → Led IsLed true rest → Led IsLed true (take_on ended n rest)
-take_on-led Whole n rest led = led
-take_on-led (Late word) n rest led = refl
-take_on-led Stopped n rest led = refl
+take_on-led ended n rest led = grind (arith, nat_tests)
 
 take_each-led : (member frame : ℕ) (bindings : List ℕ) (sample_of : ℕ → ℤ) (n : ℕ) → Led IsLed true (take_each member frame bindings sample_of n)
 unfolding take_each
@@ -25,9 +18,7 @@ take_each-led member frame bindings sample_of (suc n) =
     (refl, λ ended. take_on-led ended (suc n) (take_each member frame bindings sample_of n) (take_each-led member frame bindings sample_of n))
 
 back_on-led : (end : ℕ × Ended) (n channels : ℕ) (l : Bool) (rest : Course Commit) → l ≡ true → Led IsLed true rest → Led IsLed l (back_on end n channels rest)
-back_on-led (left, Whole) n channels l rest is led = rw is led
-back_on-led (left, Late word) n channels l rest is led = is
-back_on-led (left, Stopped) n channels l rest is led = is
+back_on-led end n channels l rest is led = grind (arith, nat_tests)
 
 take_frames-led : (member card : ℕ) (bindings : List ℕ) (samples : ℕ → ℕ → ℤ) (first n : ℕ) → Led IsLed true (take_frames member card bindings samples first n)
 unfolding take_frames

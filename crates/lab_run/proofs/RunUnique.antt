@@ -1,12 +1,12 @@
 -- A script without a mixed phase, in which no actor's own gate stops it, has one run.
 use Rattle.lab_run.specs.Prelude.{ap, arith, inl, inr, Option, refl, ℕ, ◌+◌, ◌∙◌, ◌≡◌, ◌⊎◌, false, List, map, slice_index_or, slice_set, suc, zero, [], ⊤, ◌∷◌}
-use Rattle.lab_run.specs.Prelude.{Sound, Item, Line, is_mixed, Client, IsStill, client_kinds, clients_text, item_text, ItemMay, items_text, ItemsMay, phase_end}
-use Rattle.lab_run.specs.Prelude.{phase_text, PhaseMay, reader_kinds, readers_text, reaped_client, reaped_reader, rules_of, AreWithin, lab_text, LabRun}
-use Rattle.lab_run.specs.Prelude.{Outcome, outcome_of, AreUnmixed, is_client, is_reader, IsUnmixedItem, ops_by, Reader, AtPort, first_stage, no_client}
-use Rattle.lab_run.specs.Prelude.{no_reader, Session, Setup, Stage}
-use Rattle.lab_run.proofs.ActorKinds.{client-IsKind, reader-IsKind}
+use Rattle.lab_run.specs.Prelude.{Sound, Item, Line, Op, Row, is_mixed, IsStill, client_kinds, clients_text, item_text, ItemMay, items_text, ItemsMay}
+use Rattle.lab_run.specs.Prelude.{phase_end, phase_text, PhaseMay, reader_kinds, readers_text, reaped_client, reaped_reader, rules_of, AreWithin, lab_text}
+use Rattle.lab_run.specs.Prelude.{LabRun, Outcome, outcome_of, each_text, EachMay, Kind, AreUnmixed, is_client, is_reader, IsUnmixedItem, ops_by, AtPort, Rules}
+use Rattle.lab_run.specs.Prelude.{first_stage, no_client, no_reader, Session, Stage}
+use Rattle.lab_run.proofs.ActorKinds.{IsKind, client-IsKind, reader-IsKind}
 use Rattle.lab_run.proofs.BorderLaws.{OverItems, item-over, items-over}
-use Rattle.lab_run.proofs.EachLaws.{NoneStopped, StopsGrow, each-grow, each-only, grow-map, grow-refl, grow-then, none-between, reaped_client-keeps, reaped_reader-keeps}
+use Rattle.lab_run.proofs.EachLaws.{NoneStopped, StopsGrow, KeepsPorts, each-grow, each-only, grow-map, grow-refl, grow-then, none-between, reaped_client-keeps, reaped_reader-keeps}
 use Rattle.lab_run.proofs.Still.{Unmixed, idle_phase, still_phase, unmixed}
 use Rattle.lab_lines.specs.declared.line.Item.TheVariants as item
 
@@ -26,20 +26,22 @@ pub record Grows (stage after : Stage) : Type 0 where
 same-actors : (stage after : Stage) → after.clients ≡ stage.clients → after.readers ≡ stage.readers → Grows stage after
 same-actors stage after clients readers = record { clients = rw clients (grow-refl stage.clients); readers = rw readers (grow-refl stage.readers) }
 
-phase_clients-grow : (session : Session) (stage after : Stage) (lines : List Line) (may : PhaseMay session stage lines after) → StopsGrow stage.clients may.clients
-phase_clients-grow session stage after lines may =
-    each-grow (client_kinds session stage) (λ n. client-IsKind _ _ n) (rules_of session stage lines) _ 0 stage.clients may.clients may.client_rows may.clients_may
+-- the actors of a kind in a phase, and as they are once they are reaped
+module _ {S : Type 0} (reaped : AtPort × S → AtPort × S) (keeps : KeepsPorts reaped) (kind : ℕ → Kind S) (is : (n : ℕ) → IsKind (kind n)) (rules : Rules) (ops : ℕ → List Op)
+    (actors after : List (AtPort × S)) (rows : List Row) (may : EachMay kind rules ops 0 actors after rows) where
+  kind-grows : StopsGrow actors (map reaped after)
+  kind-grows = grow-then actors after (map reaped after) (each-grow kind is rules ops 0 actors after rows may) (grow-map reaped keeps after)
 
-phase_readers-grow : (session : Session) (stage after : Stage) (lines : List Line) (may : PhaseMay session stage lines after) → StopsGrow stage.readers may.readers
-phase_readers-grow session stage after lines may =
-    each-grow (reader_kinds stage) (λ n. reader-IsKind _ n) (rules_of session stage lines) _ 0 stage.readers may.readers may.reader_rows may.readers_may
+  kind-only : ((n : ℕ) → (ops n ≡ []) ⊎ IsStill rules) → NoneStopped actors (map reaped after) → (after, rows) ≡ each_text kind rules.at ops 0 actors
+  kind-only still none = each-only kind is rules ops still 0 actors after rows
+      (none-between actors after (map reaped after) (each-grow kind is rules ops 0 actors after rows may) (grow-map reaped keeps after) none).0 may
 
 phase-grows : (session : Session) (stage after : Stage) (lines : List Line) → PhaseMay session stage lines after → Grows stage after
 phase-grows session stage after lines may = rw (may.is) (record {
-  clients = grow-then stage.clients may.clients (map (reaped_client session.ring) may.clients)
-      (phase_clients-grow session stage after lines may) (grow-map (reaped_client session.ring) (reaped_client-keeps session.ring) may.clients);
-  readers = grow-then stage.readers may.readers (map (reaped_reader session.ring) may.readers)
-      (phase_readers-grow session stage after lines may) (grow-map (reaped_reader session.ring) (reaped_reader-keeps session.ring) may.readers);
+  clients = kind-grows (reaped_client session.ring) (reaped_client-keeps session.ring) (client_kinds session stage) (λ n. client-IsKind _ _ n) (rules_of session stage lines) _
+      stage.clients may.clients may.client_rows may.clients_may;
+  readers = kind-grows (reaped_reader session.ring) (reaped_reader-keeps session.ring) (reader_kinds stage) (λ n. reader-IsKind _ n) (rules_of session stage lines) _
+      stage.readers may.readers may.reader_rows may.readers_may;
 })
 
 -- an actor in the place of one that its own gate stopped as often
@@ -69,28 +71,17 @@ pub record NoStops (stage after : Stage) : Type 0 where
   pub clients : NoneStopped stage.clients after.clients
   pub readers : NoneStopped stage.readers after.readers
 
-no_stops-first : (x y z : Stage) → Grows x y → Grows y z → NoStops x z → NoStops x y
-no_stops-first x y z one two none = record {
-  clients = (none-between x.clients y.clients z.clients one.clients two.clients none.clients).0;
-  readers = (none-between x.readers y.readers z.readers one.readers two.readers none.readers).0;
-}
-
-no_stops-then : (x y z : Stage) → Grows x y → Grows y z → NoStops x z → NoStops y z
-no_stops-then x y z one two none = record {
-  clients = (none-between x.clients y.clients z.clients one.clients two.clients none.clients).1;
-  readers = (none-between x.readers y.readers z.readers one.readers two.readers none.readers).1;
-}
+no_stops-between : (x y z : Stage) → Grows x y → Grows y z → NoStops x z → NoStops x y × NoStops y z
+no_stops-between x y z one two none =
+    let clients = none-between x.clients y.clients z.clients one.clients two.clients none.clients in
+    let readers = none-between x.readers y.readers z.readers one.readers two.readers none.readers in
+    (record { clients = clients.0; readers = readers.0 }, record { clients = clients.1; readers = readers.1 })
 
 -- an actor has no choice in a phase that isn't mixed
-still-clients : (session : Session) (stage : Stage) (lines : List Line) → Unmixed session.card.period stage.position lines
-    → (n : ℕ) → (ops_by (is_client n) lines ≡ []) ⊎ IsStill (rules_of session stage lines)
-still-clients session stage lines (still_phase still) n = inr still
-still-clients session stage lines (idle_phase clients readers) n = inl (clients n)
-
-still-readers : (session : Session) (stage : Stage) (lines : List Line) → Unmixed session.card.period stage.position lines
-    → (n : ℕ) → (ops_by (is_reader n) lines ≡ []) ⊎ IsStill (rules_of session stage lines)
-still-readers session stage lines (still_phase still) n = inr still
-still-readers session stage lines (idle_phase clients readers) n = inl (readers n)
+still-actors : (session : Session) (stage : Stage) (lines : List Line) → Unmixed session.card.period stage.position lines
+    → ((n : ℕ) → (ops_by (is_client n) lines ≡ []) ⊎ IsStill (rules_of session stage lines)) × ((n : ℕ) → (ops_by (is_reader n) lines ≡ []) ⊎ IsStill (rules_of session stage lines))
+still-actors session stage lines (still_phase still) = (λ n. inr still, λ n. inr still)
+still-actors session stage lines (idle_phase clients readers) = (λ n. inl (clients n), λ n. inl (readers n))
 
 phase-only : (session : Session) (stage after : Stage) (lines : List Line) → is_mixed lines ≡ false → NoStops stage after
     → PhaseMay session stage lines after → after ≡ phase_text session stage lines
@@ -98,20 +89,16 @@ phase-only session stage after lines is none may =
     may.is ∙ ap (λ c. phase_end session stage lines c (may.readers, may.reader_rows)) clients
     ∙ ap (λ r. phase_end session stage lines (clients_text session stage lines) r) readers
   where
-    kind : Unmixed session.card.period stage.position lines
-    kind = unmixed session.card.period stage.position lines is
+    still : ((n : ℕ) → (ops_by (is_client n) lines ≡ []) ⊎ IsStill (rules_of session stage lines)) × ((n : ℕ) → (ops_by (is_reader n) lines ≡ []) ⊎ IsStill (rules_of session stage lines))
+    still = still-actors session stage lines (unmixed session.card.period stage.position lines is)
 
     clients : (may.clients, may.client_rows) ≡ clients_text session stage lines
-    clients = each-only (client_kinds session stage) (λ n. client-IsKind _ _ n) (rules_of session stage lines) (λ n. ops_by (is_client n) lines) (still-clients session stage lines kind) 0
-        stage.clients may.clients may.client_rows
-        (none-between stage.clients may.clients (map (reaped_client session.ring) may.clients)
-        (phase_clients-grow session stage after lines may) (grow-map (reaped_client session.ring) (reaped_client-keeps session.ring) may.clients) (rw (may.is) at none.clients)).0 may.clients_may
+    clients = kind-only (reaped_client session.ring) (reaped_client-keeps session.ring) (client_kinds session stage) (λ n. client-IsKind _ _ n) (rules_of session stage lines) _
+        stage.clients may.clients may.client_rows may.clients_may still.0 (rw (may.is) at none.clients)
 
     readers : (may.readers, may.reader_rows) ≡ readers_text session stage lines
-    readers = each-only (reader_kinds stage) (λ n. reader-IsKind _ n) (rules_of session stage lines) (λ n. ops_by (is_reader n) lines) (still-readers session stage lines kind) 0
-        stage.readers may.readers may.reader_rows
-        (none-between stage.readers may.readers (map (reaped_reader session.ring) may.readers)
-        (phase_readers-grow session stage after lines may) (grow-map (reaped_reader session.ring) (reaped_reader-keeps session.ring) may.readers) (rw (may.is) at none.readers)).0 may.readers_may
+    readers = kind-only (reaped_reader session.ring) (reaped_reader-keeps session.ring) (reader_kinds stage) (λ n. reader-IsKind _ n) (rules_of session stage lines) _
+        stage.readers may.readers may.reader_rows may.readers_may still.1 (rw (may.is) at none.readers)
 
 item-only : (session : Session) (stage after : Stage) (one : Item) → IsUnmixedItem one → NoStops stage after
     → ItemMay session stage one after → after ≡ item_text session stage one
@@ -124,9 +111,8 @@ items-only : (session : Session) (stage after : Stage) (items : List Item) → A
 items-only session stage after [] are none is = is
 items-only session stage after (one ∷ items) are none (between, may, rest) =
     let first = item-over session Grows (over-grows session) stage between one may in
-    let more = items-grow session between after items rest in
-    items-only session between after items are.1 (no_stops-then stage between after first more none) rest
-    ∙ ap (λ s. items_text session s items) (item-only session stage between one are.0 (no_stops-first stage between after first more none) may)
+    let none_of = no_stops-between stage between after first (items-grow session between after items rest) none in
+    items-only session between after items are.1 none_of.1 rest ∙ ap (λ s. items_text session s items) (item-only session stage between one are.0 none_of.0 may)
 
 abbrev StopsNone : {S : Type 0} → List (AtPort × S) → Type 0
 StopsNone [] = ⊤
@@ -140,17 +126,13 @@ none-from number (x ∷ actors) (y ∷ after) grows within none = (omega (arith,
 first-none : (session : Session) (end : Stage) → Grows (first_stage session) end → AreWithin (λ n. 0) 0 end.clients → AreWithin (λ n. 0) 0 end.readers
     → NoStops (first_stage session) end
 first-none session end grows clients readers = record {
-  clients = none-from 0 _ end.clients grows.clients clients (no_clients session.clients);
-  readers = none-from 0 _ end.readers grows.readers readers (no_readers session.readers);
+  clients = none-from 0 _ end.clients grows.clients clients (all-none (no_client session.ring) refl session.clients);
+  readers = none-from 0 _ end.readers grows.readers readers (all-none (no_reader session.ring) refl session.readers);
 }
   where
-    no_clients : (setups : List (Option Setup)) → StopsNone {S = Client} (map (λ setup. no_client session.ring) setups)
-    no_clients [] = tt
-    no_clients (setup ∷ setups) = (refl, no_clients setups)
-
-    no_readers : (setups : List (Option Setup)) → StopsNone {S = Reader} (map (λ setup. no_reader session.ring) setups)
-    no_readers [] = tt
-    no_readers (setup ∷ setups) = (refl, no_readers setups)
+    all-none : {S X : Type 0} (actor : AtPort × S) → actor.0.by_gate ≡ 0 → (xs : List X) → StopsNone (map (λ x. actor) xs)
+    all-none actor is [] = tt
+    all-none actor is (x ∷ xs) = (is, all-none actor is xs)
 
 -- a script without a mixed phase, in which no handed-in gate stops, has no other run than the one where no phase is left a choice
 pub LabRun-text : (session : Session) (capture : Option Sound) (body : List Item) (outcome : Outcome) → AreUnmixed body

@@ -1,12 +1,17 @@
 -- A stage of a run is where its script has it, and what a phase allows is what the script has of that phase.
 use Rattle.lab_run.specs.Prelude.{ap, arith, inl, inr, length, refl, subst, sym, take, ℕ, ◌*◌, ◌+◌, ◌-◌, ◌/◌, ◌<◌, ◌∙◌, ◌≡◌, ◌≤◌, ◌⊎◌, cases_eq, cases_lt}
-use Rattle.lab_run.specs.Prelude.{eq-eqb, eqb-true, length-append, All-head, All-tail, All-take, Contains-append_right, sum_by-append, sum_by-cons, list_any}
-use Rattle.lab_run.specs.Prelude.{range_with_len, All, Bool, Contains, false, filter, if◌then◌else◌, List, slice_index_or, suc, true, zero, [], ◌%◌, ◌++◌, ◌==◌}
-use Rattle.lab_run.specs.Prelude.{◌||◌, ◌∷◌, Sound, Actor, Item, Line, Script, IsItem, IsLine, first_frame, frames_played, IsCardPosition, phase_at, phases_of}
-use Rattle.lab_run.specs.Prelude.{position_after_phases, unplugs, ItemsMay, on_the_way, phase_positions, played_at, played_in, published_by, first_stage}
-use Rattle.lab_run.specs.Prelude.{Session, Stage}
+use Rattle.lab_run.specs.Prelude.{eq-eqb, eqb-true, nat_tests, length-append, All-append, All-cons, All-contains, All-filter, All-head, All-nil, All-push}
+use Rattle.lab_run.specs.Prelude.{All-tail, All-take, All-weaker, Contains-append_cases, Contains-append_left, Contains-append_right, filter_passes}
+use Rattle.lab_run.specs.Prelude.{sum_by-append, sum_by-cons, list_any, range_with_len, All, Bool, Contains, filter, List, nat_eq, slice_index_or, suc, true}
+use Rattle.lab_run.specs.Prelude.{zero, [], ◌%◌, ◌++◌, ◌==◌, ◌||◌, ◌∷◌, Sound, Actor, Item, Line, Script, IsItem, IsLine, first_frame, frames_played}
+use Rattle.lab_run.specs.Prelude.{IsCardPosition, phase_at, phases_of, position_after_phases, unplugs, ItemsMay, on_the_way, phase_positions, played_at}
+use Rattle.lab_run.specs.Prelude.{played_in, published_by, first_stage, Session, Stage}
+use Rattle.std.proofs.Math.Bool.{or-false, or_assoc}
 use Rattle.std.proofs.Math.Nat.{mul-mod_left}
 use Rattle.std.proofs.Math.Seq.{get_or-append_seam, take-append-add, take-append_seam, take-length}
+use Rattle.std.proofs.lemmas.Cmp.{nat_eq_equiv}
+use Rattle.std.proofs.lemmas.List.FromFn.{get_or-range_with_len, length-range_with_len}
+use Rattle.std.proofs.lemmas.Map.Views.{Contains-from_any, any-filter_same, list_any-from_Contains}
 use Rattle.std.proofs.lemmas.Nat.{div-add-mod'}
 use Rattle.lab_run.specs.ScriptWords.{IsReached, PhasesAreOfScripts, StagesAreOfScripts}
 use Rattle.lab_run.proofs.BorderLaws.{Border, close-by, open-by}
@@ -20,16 +25,8 @@ record HasCardOf (stage after : Stage) : Type 0 where
   pub position : after.position ≡ stage.position
   pub gone : after.gone ≡ stage.gone
 
-same : (stage after : Stage) → after.phases ≡ stage.phases → after.position ≡ stage.position → after.gone ≡ stage.gone → HasCardOf stage after
-same stage after phases position gone = record { phases = phases; position = position; gone = gone }
-
 card-border : (session : Session) (stage : Stage) (who : Actor) → Border session stage who (HasCardOf stage)
-card-border session stage who = record {
-  none = λ card. same stage _ refl refl refl;
-  refused = λ lobby row of. same stage _ refl refl refl;
-  client = λ n client lobby claims row who_is of segments. same stage _ refl refl refl;
-  reader = λ n own anew row who_is of. same stage _ refl refl refl;
-}
+card-border session stage who = assumption
 
 -- what the phases of items make of the card
 record IsCardAfter (stage : Stage) (phases : List (List Line)) (after : Stage) : Type 0 where
@@ -37,20 +34,8 @@ record IsCardAfter (stage : Stage) (phases : List (List Line)) (after : Stage) :
   pub position : after.position ≡ stage.position + frames_played phases
   pub gone : after.gone ≡ stage.gone || list_any unplugs phases
 
-or-assoc : (a b c : Bool) → (a || b) || c ≡ a || (b || c)
-or-assoc true b c = refl
-or-assoc false b c = refl
-
-or-false : (a : Bool) → a || false ≡ a
-or-false true = refl
-or-false false = refl
-
 stays-card : (stage between after : Stage) (phases : List (List Line)) → HasCardOf stage between → IsCardAfter between phases after → IsCardAfter stage phases after
-stays-card stage between after phases is rest = record {
-  count = rest.count ∙ ap (λ (n : ℕ). n + length phases) is.phases;
-  position = rest.position ∙ ap (λ (n : ℕ). n + frames_played phases) is.position;
-  gone = rest.gone ∙ ap (λ (b : Bool). b || list_any unplugs phases) is.gone;
-}
+stays-card stage between after phases is rest = grind (arith, nat_tests)
 
 items-card : (clients readers : ℕ) (session : Session) (stage after : Stage) (items : List Item) → All (IsItem clients readers) items
     → ItemsMay session stage items after → IsCardAfter stage (phases_of items) after
@@ -71,7 +56,7 @@ items-card clients readers session stage after (item.Phase lines ∷ items) all 
     record {
       count = omega (arith, others.count, phases);
       position = omega (arith, others.position, position, alike, sum_by-cons script_words.played_in lines (phases_of items));
-      gone = others.gone ∙ ap (λ (b : Bool). b || list_any unplugs (phases_of items)) gone ∙ or-assoc stage.gone (unplugs lines) (list_any unplugs (phases_of items));
+      gone = others.gone ∙ ap (λ (b : Bool). b || list_any unplugs (phases_of items)) gone ∙ or_assoc stage.gone (unplugs lines) (list_any unplugs (phases_of items));
     }
 
 -- ---- the phases of the first items are the first phases
@@ -125,78 +110,23 @@ stages-of_scripts script wavs session done others stage is = record {
 
 -- ---- what the card publishes
 
--- a list has a member
-abbrev In : ℕ → List ℕ → Type 0
-In q [] = ⊥
-In q (x ∷ xs) = (x ≡ q) ⊎ In q xs
+-- a member that passes a test is kept
+filter-kept : (test : ℕ → Bool) (xs : List ℕ) (q : ℕ) → Contains xs q → test q ≡ true → Contains (filter test xs) q
+filter-kept test xs q there kept =
+    Contains-from_any (λ x y. eqb-true x y) q (filter test xs)
+    (any-filter_same (nat_eq q) test true (λ p same. subst (λ (n : ℕ). test n ≡ true) (eqb-true q p same) kept) xs ∙ list_any-from_Contains nat_eq_equiv q xs there)
 
-Contains-In : (xs : List ℕ) (q : ℕ) → In q xs → Contains xs q
-Contains-In [] q there = absurd there
-Contains-In (x ∷ xs) q (inl is) = (0, omega arith, is)
-Contains-In (x ∷ xs) q (inr there) = Contains-append_right (x ∷ []) xs q (Contains-In xs q there)
+range-within : (from frames : ℕ) → All (λ q. (from ≤ q) × (q < from + frames)) (range_with_len from frames)
+range-within from frames k d low =
+    let inside : k < frames = omega (arith, low, length-range_with_len from frames) in
+    let value : slice_index_or (range_with_len from frames) k d ≡ from + k = get_or-range_with_len from frames k d inside in
+    (omega (arith, value), omega (arith, value, inside))
 
-In-Contains : (xs : List ℕ) (q : ℕ) → Contains xs q → In q xs
-In-Contains [] q (i, low, is) = absurd (omega (arith, low))
-In-Contains (x ∷ xs) q (zero, low, is) = inl is
-In-Contains (x ∷ xs) q (suc i, low, is) = inr (In-Contains xs q (i, omega (arith, low), is))
-
-In-left : (xs ys : List ℕ) (q : ℕ) → In q xs → In q (xs ++ ys)
-In-left [] ys q there = absurd there
-In-left (x ∷ xs) ys q (inl is) = inl is
-In-left (x ∷ xs) ys q (inr there) = inr (In-left xs ys q there)
-
-In-right : (xs ys : List ℕ) (q : ℕ) → In q ys → In q (xs ++ ys)
-In-right [] ys q there = there
-In-right (x ∷ xs) ys q there = inr (In-right xs ys q there)
-
-In-append : (xs ys : List ℕ) (q : ℕ) → In q (xs ++ ys) → In q xs ⊎ In q ys
-In-append [] ys q there = inr there
-In-append (x ∷ xs) ys q (inl is) = inl (inl is)
-In-append (x ∷ xs) ys q (inr there) = elim (In-append xs ys q there) [
-  | inl here ↦ inl (inr here)
-  | inr behind ↦ inr behind
-]
-
-record IsKept (test : ℕ → Bool) (q : ℕ) (xs : List ℕ) : Type 0 where
-  pub there : In q xs
-  pub kept : test q ≡ true
-
-In-filter : (test : ℕ → Bool) (xs : List ℕ) (q : ℕ) → In q (filter test xs) → IsKept test q xs
-In-filter test [] q there = absurd there
-In-filter test (x ∷ xs) q there = by_test (λ rest. behind (In-filter test xs q rest)) (test x) refl there
-  where
-    behind : IsKept test q xs → IsKept test q (x ∷ xs)
-    behind is = record { there = inr is.there; kept = is.kept }
-
-    by_test : (In q (filter test xs) → IsKept test q (x ∷ xs)) → (b : Bool) → test x ≡ b → In q (if b then x ∷ filter test xs else filter test xs) → IsKept test q (x ∷ xs)
-    by_test more true is (inl same) = record { there = inl same; kept = subst (λ (y : ℕ). test y ≡ true) same is }
-    by_test more true is (inr rest) = more rest
-    by_test more false is rest = more rest
-
-filter-In : (test : ℕ → Bool) (xs : List ℕ) (q : ℕ) → In q xs → test q ≡ true → In q (filter test xs)
-filter-In test [] q there kept = absurd there
-filter-In test (x ∷ xs) q there kept = by_test (λ rest. filter-In test xs q rest kept) (test x) refl there
-  where
-    both : {b : Bool} → b ≡ false → b ≡ true → ⊥
-    both x y = absurd (cc)
-
-    by_test : (In q xs → In q (filter test xs)) → (b : Bool) → test x ≡ b → In q (x ∷ xs) → In q (if b then x ∷ filter test xs else filter test xs)
-    by_test more true is (inl same) = inl same
-    by_test more true is (inr rest) = inr (more rest)
-    by_test more false is (inl same) = absurd (both (subst (λ (y : ℕ). test y ≡ false) same is) kept)
-    by_test more false is (inr rest) = more rest
-
-In-range : (from frames q : ℕ) → In q (range_with_len from frames) → (from ≤ q) × (q < from + frames)
-In-range from zero q there = absurd there
-In-range from (suc frames) q (inl is) = (omega (arith, is), omega (arith, is))
-In-range from (suc frames) q (inr there) = let rest = In-range (from + 1) frames q there in (omega (arith, rest.0), omega (arith, rest.1))
-
-range-In : (from frames q : ℕ) → from ≤ q → q < from + frames → In q (range_with_len from frames)
-range-In from zero q low high = absurd (omega (arith, low, high))
-range-In from (suc frames) q low high = elim (cases_eq from q) [
-  | inl is ↦ inl is
-  | inr other ↦ inr (range-In (from + 1) frames q (omega (arith, low, other)) (omega (arith, high)))
-]
+range-has : (from frames q : ℕ) → from ≤ q → q < from + frames → Contains (range_with_len from frames) q
+range-has from frames q low high =
+    let inside : q - from < frames = omega (arith, low, high) in
+    let value : slice_index_or (range_with_len from frames) (q - from) q ≡ from + (q - from) = get_or-range_with_len from frames (q - from) q inside in
+    (q - from, omega (arith, inside, length-range_with_len from frames), omega (arith, value, low))
 
 -- a position on the way of lines that begin at a position: a multiple of the period, or the position after some of them
 data IsOnTheWay (period from : ℕ) (lines : List Line) (q : ℕ) : Type 0 where
@@ -217,34 +147,39 @@ on-the_way-upto period from lines q k is low high = elim (cases_eq q (from + pla
   | inr before ↦ multiple k is low (omega (arith, high, before))
 ]
 
-published-on_the_way : (period from : ℕ) (lines : List Line) (q : ℕ) → In q (published_by period from lines) → IsOnTheWay period from lines q
-published-on_the_way period from [] q there = absurd there
-published-on_the_way period from (line ∷ lines) q there = elim (In-append (on_the_way period from (played_at line)) _ q there) [
-  | inl here ↦ elim (In-append (filter (λ p. p % period == 0) (range_with_len (from + 1) (played_at line))) _ q here) [
-    | inl kept ↦ of_range (In-filter (λ p. p % period == 0) _ q kept)
-    | inr last ↦ at_end last
-  ]
-  | inr rest ↦ on-the_way-more period from line lines q (published-on_the_way period (from + played_at line) lines q rest)
-]
+published-on_the_way : (period from : ℕ) (lines : List Line) → All (IsOnTheWay period from lines) (published_by period from lines)
+published-on_the_way period from [] = All-nil (IsOnTheWay period from [])
+published-on_the_way period from (line ∷ lines) =
+    All-append way (on_the_way period from (played_at line)) (published_by period (from + played_at line) lines)
+    (All-push way multiples (from + played_at line) kept (behind 1 (omega arith) (omega (arith, sum_by-cons played_at line []))))
+    (All-weaker (IsOnTheWay period (from + played_at line) lines) way (on-the_way-more period from line lines) _ (published-on_the_way period (from + played_at line) lines))
   where
-    of_range : IsKept (λ p. p % period == 0) q (range_with_len (from + 1) (played_at line)) → IsOnTheWay period from (line ∷ lines) q
-    of_range kept =
-        let range = In-range (from + 1) (played_at line) q kept.there in
-        let no_rest : q % period ≡ 0 = eqb-true _ _ kept.kept in
+    way : ℕ → Type 0
+    way = IsOnTheWay period from (line ∷ lines)
+
+    multiples : List ℕ
+    multiples = filter (λ p. p % period == 0) (range_with_len (from + 1) (played_at line))
+
+    kept : All way multiples
+    kept k d low =
+        let q : ℕ = slice_index_or multiples k d in
+        let range : (from + 1 ≤ q) × (q < from + 1 + played_at line) =
+        All-filter (λ p. p % period == 0) (λ p. (from + 1 ≤ p) × (p < from + 1 + played_at line)) _ (range-within (from + 1) (played_at line)) k d low in
+        let no_rest : q % period ≡ 0 = eqb-true _ _ (filter_passes (λ p. p % period == 0) (range_with_len (from + 1) (played_at line)) k d low) in
         on-the_way-upto period from (line ∷ lines) q (q / period) (omega (arith, div-add-mod' q period, no_rest)) (omega (arith, range.0))
         (omega (arith, range.1, sum_by-cons played_at line lines))
 
-    at_end : In q ((from + played_at line) ∷ []) → IsOnTheWay period from (line ∷ lines) q
-    at_end (inl is) = behind 1 (omega arith) (omega (arith, sym is, sum_by-cons played_at line []))
-    at_end (inr there) = absurd there
-
 -- what lines publish from the second on
-next-published : (period from : ℕ) (line : Line) (lines : List Line) (q : ℕ) → In q (phase_positions period (from + played_at line) lines) → In q (phase_positions period from (line ∷ lines))
-next-published period from line lines q (inl is) = inr (In-left (on_the_way period from (played_at line)) _ q (In-right _ ((from + played_at line) ∷ []) q (inl is)))
-next-published period from line lines q (inr there) = inr (In-right (on_the_way period from (played_at line)) _ q there)
+next-published : (period from : ℕ) (line : Line) (lines : List Line) (q : ℕ)
+    → Contains (phase_positions period (from + played_at line) lines) q → Contains (phase_positions period from (line ∷ lines)) q
+next-published period from line lines q there =
+    Contains-append_right (from ∷ []) _ q (elim (Contains-append_cases ((from + played_at line) ∷ []) _ q there) [
+      | inl here ↦ Contains-append_left (on_the_way period from (played_at line)) _ q (Contains-append_right _ ((from + played_at line) ∷ []) q here)
+      | inr rest ↦ Contains-append_right (on_the_way period from (played_at line)) _ q rest
+    ])
 
-on_the_way-published : (period from : ℕ) (lines : List Line) (q : ℕ) → IsOnTheWay period from lines q → In q (phase_positions period from lines)
-on_the_way-published period from lines q (behind zero few is) = inl (omega (arith, is))
+on_the_way-published : (period from : ℕ) (lines : List Line) (q : ℕ) → IsOnTheWay period from lines q → Contains (phase_positions period from lines) q
+on_the_way-published period from lines q (behind zero few is) = (0, omega arith, omega (arith, is))
 on_the_way-published period from [] q (behind (suc n) few is) = absurd (omega (arith, few))
 on_the_way-published period from (line ∷ lines) q (behind (suc n) few is) =
     next-published period from line lines q
@@ -253,18 +188,21 @@ on_the_way-published period from [] q (multiple k is low high) = absurd (omega (
 on_the_way-published period from (line ∷ lines) q (multiple k is low high) =
     by_order (λ far more. on_the_way-published period (from + played_at line) lines q (multiple k is far more)) (cases_lt q (from + played_at line + 1)) (cases_eq from q)
   where
-    test : ℕ → Bool
-    test p = p % period == 0
-
-    by_order : (from + played_at line ≤ q → q < from + played_at line + played_in lines → In q (phase_positions period (from + played_at line) lines))
-        → (q < from + played_at line + 1) ⊎ (from + played_at line + 1 ≤ q) → (from ≡ q) ⊎ (from ≡ q → ⊥) → In q (phase_positions period from (line ∷ lines))
-    by_order more near (inl first) = inl first
+    by_order : (from + played_at line ≤ q → q < from + played_at line + played_in lines → Contains (phase_positions period (from + played_at line) lines) q)
+        → (q < from + played_at line + 1) ⊎ (from + played_at line + 1 ≤ q) → (from ≡ q) ⊎ (from ≡ q → ⊥) → Contains (phase_positions period from (line ∷ lines)) q
+    by_order more near (inl first) = (0, omega arith, first)
     by_order more (inl near) (inr later) =
-        inr (In-left (on_the_way period from (played_at line)) _ q (In-left (filter test (range_with_len (from + 1) (played_at line))) _ q
-        (filter-In test _ q (range-In (from + 1) (played_at line) q (omega (arith, low, later)) (omega (arith, near)))
+        Contains-append_right (from ∷ []) _ q (Contains-append_left (on_the_way period from (played_at line)) _ q
+        (Contains-append_left (filter (λ p. p % period == 0) (range_with_len (from + 1) (played_at line))) _ q
+        (filter-kept (λ p. p % period == 0) _ q (range-has (from + 1) (played_at line) q (omega (arith, low, later)) (omega (arith, near)))
         (eq-eqb (q % period) 0 (ap (λ (n : ℕ). n % period) is ∙ mul-mod_left k period)))))
     by_order more (inr far) (inr later) = next-published period from line lines q
         (more (omega (arith, far)) (omega (arith, high, sum_by-cons played_at line lines)))
+
+-- the card publishes the position at the end of each phase
+pub last-published : (period from : ℕ) (lines : List Line) → Contains (phase_positions period from lines) (from + played_in lines)
+last-published period from lines =
+    on_the_way-published period from lines _ (behind (length lines) (omega arith) (ap (λ (ls : List Line). from + played_in ls) (sym (take-length lines))))
 
 take-lines : (clients readers : ℕ) (lines : List Line) (n : ℕ) → All (IsLine clients readers) lines → played_in (take n lines) ≡ script_words.played_in (take n lines)
 take-lines clients readers lines n all = played_in-lines clients readers (take n lines) (All-take (IsLine clients readers) n lines all)
@@ -275,8 +213,10 @@ phases-of_scripts script wavs session done others lines stage is = record {
   lines_are = next;
   position = position;
   gone = (stages-of_scripts script wavs session done (item.Phase lines ∷ others) stage is).gone;
-  published = λ q there. by_way q (In-Contains (phase_positions session.card.period stage.position lines) q there);
-  publishes = λ q there. Contains-In (phase_positions session.card.period stage.position lines) q (by_words q there);
+  published = λ q. All-contains (IsCardPosition script (stage.phases + 1)) (phase_positions session.card.period stage.position lines) q
+      (All-cons (IsCardPosition script (stage.phases + 1)) stage.position _ (inl begins)
+      (All-weaker (IsOnTheWay session.card.period stage.position lines) (IsCardPosition script (stage.phases + 1)) of_way _ (published-on_the_way session.card.period stage.position lines)));
+  publishes = by_words;
 }
   where
     card : IsCardOf script done (item.Phase lines ∷ others) stage
@@ -310,28 +250,24 @@ phases-of_scripts script wavs session done others lines stage is = record {
     position : stage.position + played_in lines ≡ position_after_phases script (stage.phases + 1)
     position = omega (arith, card.position, frames, played_in-lines (length script.clients) (length script.readers) lines each)
 
-    by_way : (q : ℕ) → In q (phase_positions session.card.period stage.position lines) → IsCardPosition script (stage.phases + 1) q
-    by_way q (inl first) = inl (sym first ∙ begins)
-    by_way q (inr there) = of_way (published-on_the_way session.card.period stage.position lines q there)
-      where
-        of_way : IsOnTheWay session.card.period stage.position lines q → IsCardPosition script (stage.phases + 1) q
-        of_way (multiple k same low high) =
-            inr (inl (k, same ∙ ap (λ (n : ℕ). k * n) period, omega (arith, low, begins), omega (arith, high, position)))
-        of_way (behind n few same) =
-            inr (inr (
-              n,
-              omega (arith, few, ap length next),
-              omega (
-                arith,
-                same,
-                begins,
-                take-lines (length script.clients) (length script.readers) lines n each,
-                ap (λ (ls : List Line). script_words.played_in (take n ls)) next,
-              ),
-            ))
+    of_way : (q : ℕ) → IsOnTheWay session.card.period stage.position lines q → IsCardPosition script (stage.phases + 1) q
+    of_way q (multiple k same low high) =
+        inr (inl (k, same ∙ ap (λ (n : ℕ). k * n) period, omega (arith, low, begins), omega (arith, high, position)))
+    of_way q (behind n few same) =
+        inr (inr (
+          n,
+          omega (arith, few, ap length next),
+          omega (
+            arith,
+            same,
+            begins,
+            take-lines (length script.clients) (length script.readers) lines n each,
+            ap (λ (ls : List Line). script_words.played_in (take n ls)) next,
+          ),
+        ))
 
-    by_words : (q : ℕ) → IsCardPosition script (stage.phases + 1) q → In q (phase_positions session.card.period stage.position lines)
-    by_words q (inl first) = inl (begins ∙ sym first)
+    by_words : (q : ℕ) → IsCardPosition script (stage.phases + 1) q → Contains (phase_positions session.card.period stage.position lines) q
+    by_words q (inl first) = (0, omega arith, begins ∙ sym first)
     by_words q (inr (inl (k, same, low, high))) = on_the_way-published session.card.period stage.position lines q
         (multiple k (same ∙ ap (λ (n : ℕ). k * n) (sym period)) (omega (arith, low, begins)) (omega (arith, high, position)))
     by_words q (inr (inr (n, few, same))) = on_the_way-published session.card.period stage.position lines q

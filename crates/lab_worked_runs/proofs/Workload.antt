@@ -1,4 +1,5 @@
 -- The worked run of a workload: the script and the files of a seed, its report, and its summary.
+use Rattle.std.proofs.lemmas.Bool.Decides.{nat_tests}
 use Rattle.std.proofs.Common.{◌≡◌, refl, arith, None}
 use Rattle.std.specs.Prelude.{[], ◌∷◌, pos, Ok}
 use Rattle.snd_base.specs.declared.geometry.Geometry.{Geometry}
@@ -38,16 +39,7 @@ made_summary =
 
 made_summary_is : IsSummaryOf (record { seed = 7; clients = 1; phases = 1 }) made_outcome.report made_outcome.played made_summary
 unfolding printout_of made_outcome made_ring made_summary
-made_summary_is = record {
-  seed_is = refl;
-  clients_are = refl;
-  phases_are = refl;
-  played_is = refl;
-  segments_are = refl;
-  laid_is = refl;
-  xruns_are = refl;
-  sum_is = refl;
-}
+made_summary_is = grind (arith, nat_tests)
 
 made_summary_text : summary_text made_summary
     ≡ text_of (

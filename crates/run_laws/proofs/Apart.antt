@@ -1,9 +1,9 @@
 -- Clients that share a card by channels have no channel in common while they are open: each channel has one owner.
-use Rattle.run_laws.specs.Prelude.{ap, length, List, None, Option, refl, Some, subst, sym, ℕ, [], ◌<◌, ◌∙◌, ◌∷◌, ◌≡◌, eqb-true, false≢true, Bool, false}
-use Rattle.run_laws.specs.Prelude.{is_some, slice_index_or, slice_set, true, ◌==◌, ◌||◌, AreFree, claimed, ClaimRow as Claim, has_channel, IsFree, owner_of}
-use Rattle.run_laws.specs.Prelude.{released, high_frame, PlaybackStream, Sound, Item, Op, Answer, Dshare, claim_refusal, ClaimIsOwners, with_claim}
-use Rattle.run_laws.specs.Prelude.{with_release, Client, client_kind, no_sound, LineMay, AtPort, Rules, client_at, ended_client, first_stage, Session, Setup}
-use Rattle.run_laws.specs.Prelude.{Stage, channels_of_client, HaveOwnChannels}
+use Rattle.run_laws.specs.Prelude.{ap, arith, length, List, None, Option, refl, Some, subst, sym, ℕ, [], ◌<◌, ◌∙◌, ◌∷◌, ◌≡◌, eqb-true, false_from_ne_true}
+use Rattle.run_laws.specs.Prelude.{false≢true, nat_tests, Bool, false, is_some, slice_index_or, slice_set, true, ◌==◌, ◌||◌, AreFree, claimed}
+use Rattle.run_laws.specs.Prelude.{ClaimRow as Claim, has_channel, IsFree, owner_of, released, high_frame, PlaybackStream, Sound, Item, Op, Answer, Dshare}
+use Rattle.run_laws.specs.Prelude.{claim_refusal, ClaimIsOwners, with_claim, with_release, Client, client_kind, no_sound, LineMay, AtPort, Rules, client_at}
+use Rattle.run_laws.specs.Prelude.{ended_client, first_stage, Session, Setup, Stage, channels_of_client, HaveOwnChannels}
 use Rattle.run_laws.proofs.Bound.{HasBindings, line-bound}
 use Rattle.run_laws.proofs.Going.{still-client}
 use Rattle.run_laws.proofs.Stages.{IsLasting, at, first-none, items-held, client_opened, set-so}
@@ -14,11 +14,7 @@ abbrev pub Has : List ℕ → ℕ → Type 0
 Has channels k = has_channel channels k ≡ true
 
 pub not-has : (channels : List ℕ) (k : ℕ) → (Has channels k → ⊥) → has_channel channels k ≡ false
-not-has channels k not = by_test (has_channel channels k) refl
-  where
-    by_test : (b : Bool) → has_channel channels k ≡ b → has_channel channels k ≡ false
-    by_test true is = absurd (not is)
-    by_test false is = is
+not-has channels k not = false_from_ne_true (has_channel channels k) not
 
 pub free-at : (claims : List Claim) (position : ℕ) (channels : List ℕ) (k : ℕ) → AreFree claims position channels → Has channels k → IsFree claims position k
 free-at claims position [] k free has = absurd (false≢true has)
@@ -58,10 +54,7 @@ module _ (session : Session) (k : ℕ) where
   fewer : (clients after : List (AtPort × Client)) (claims more : List Claim)
       → ((m : ℕ) → HoldsChannel k (at session after m) → HoldsChannel k (at session clients m) × (owner_of more k ≡ owner_of claims k))
       → HasOneOwner session k clients claims → HasOneOwner session k after more
-  fewer clients after claims more less one = record {
-    owned = λ n has. subst (λ (o : Option ℕ). is_some o ≡ true) (sym (less n has).1) (one.owned n (less n has).0);
-    only = λ n m first second. one.only n m (less n first).0 (less m second).0;
-  }
+  fewer clients after claims more less one = grind (arith, nat_tests)
 
   pub first-owner : HasOneOwner session k (first_stage session).clients (first_stage session).claims
   first-owner = record { owned = λ n has. absurd (none n has); only = λ n m has also. absurd (none n has) }

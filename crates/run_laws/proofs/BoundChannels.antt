@@ -1,13 +1,17 @@
 -- The clients of a script are bound to channels of the card that differ.
-use Rattle.run_laws.specs.Prelude.{arith, inl, inr, length, List, None, Option, Some, subst, sym, ℕ, [], ◌<◌, ◌∷◌, ◌≡◌, ◌≤◌, IfSome, slice_index_or, suc}
-use Rattle.run_laws.specs.Prelude.{unwrap_or, zero, AreBindings, identity, AreBindings-identity, ParamBox, point, with_value, IsLeft, whole_from_to, widest}
-use Rattle.run_laws.specs.Prelude.{Sound, CardLine, ClientLine, Script, IsBoundWhere, IsClientLine, IsScript, AreClientOpenings, IsClientOpening, IsClientSetup}
-use Rattle.run_laws.specs.Prelude.{IsSessionOf, Session, Setup, AreBound}
+use Rattle.run_laws.specs.Prelude.{arith, inl, inr, List, None, Option, refl, Some, subst, sym, ℕ, [], ◌≡◌, ◌≤◌, get_or_from_slice_get, slice_get_within}
+use Rattle.run_laws.specs.Prelude.{IfSome, slice_index_or, unwrap_or, AreBindings, identity, AreBindings-identity, Sound, CardLine, ClientLine, Script}
+use Rattle.run_laws.specs.Prelude.{IsBoundWhere, IsClientLine, IsScript, IsClientSetup, IsSessionOf, Session, Setup, AreBound}
 use Rattle.bindings.specs.AnswerLaws.{AreBindings-answered}
 use Rattle.pcm_interval.specs.declared.interval.Interval.{Interval}
 use Rattle.pcm_interval.specs.IntervalLaws.{IsNonEmpty-le, refined-IsWithin_left, refined-IsWithin_right}
 use Rattle.pcm_interval.specs.Intervals.{IsLowerWithin, IsUpperWithin, IsIntervalWithin, refinement}
 use Rattle.hw_space.specs.declared.param.Param.TheVariants.{Channels}
+use Rattle.hw_space.specs.declared.param_box.ParamBox.{ParamBox}
+use Rattle.hw_space.specs.Narrowings.{point, with_value}
+use Rattle.hw_space.specs.Settled.{IsLeft}
+use Rattle.hw_space.specs.Widest.{whole_from_to, widest}
+use Rattle.run_laws.proofs.FromFiles.{opened-at}
 use Rattle.hw_space.specs.declared.quantity.Quantity.TheVariants as quantity
 
 -- ---- the channels of a file
@@ -53,10 +57,9 @@ pub setup-channels : (card : CardLine) (line : ClientLine) (wav : Sound) (setup 
     → (1 ≤ wav.channels) × (wav.channels ≤ card.channels)
 setup-channels card line wav setup opening = left-channels card.channels card.rate card.ring wav.channels opening.config.1.0 opening.config.1.1
 
-opening-bound : (card : CardLine) (line : ClientLine) (wav : Sound) (setup : Option Setup) → card.channels ≤ 8 → IsClientLine card line → IsClientOpening card line wav setup
-    → IfSome setup (λ (s : Setup). AreBindings s.bindings)
-opening-bound card line wav None few is opening = tt
-opening-bound card line wav (Some setup) few is opening = subst AreBindings (sym opening.bindings) (by_line line.bindings is.bindings)
+opening-bound : (card : CardLine) (line : ClientLine) (wav : Sound) (setup : Setup) → card.channels ≤ 8 → IsClientLine card line → IsClientSetup card line wav setup
+    → AreBindings setup.bindings
+opening-bound card line wav setup few is opening = subst AreBindings (sym opening.bindings) (by_line line.bindings is.bindings)
   where
     channels : (1 ≤ wav.channels) × (wav.channels ≤ card.channels)
     channels = setup-channels card line wav setup opening
@@ -65,15 +68,13 @@ opening-bound card line wav (Some setup) few is opening = subst AreBindings (sym
     by_line None bound = AreBindings-identity wav.channels channels.0 (omega (arith, channels.1, few))
     by_line (Some list) bound = AreBindings-answered list card.channels (omega (arith, few)) bound
 
-openings-bound : (card : CardLine) (lines : List ClientLine) (wavs : List Sound) (setups : List (Option Setup)) (number : ℕ) → card.channels ≤ 8
-    → ((k : ℕ) (d : ClientLine) → k < length lines → IsClientLine card (slice_index_or lines k d)) → AreClientOpenings card lines wavs setups
-    → IfSome (slice_index_or setups number None) (λ (s : Setup). AreBindings s.bindings)
-openings-bound card [] [] [] number few each are = tt
-openings-bound card (line ∷ lines) (wav ∷ wavs) (setup ∷ setups) zero few each are = opening-bound card line wav setup few (each 0 line (omega arith)) are.0
-openings-bound card (line ∷ lines) (wav ∷ wavs) (setup ∷ setups) (suc number) few each are =
-    openings-bound card lines wavs setups number few (λ k d within. each (suc k) d (omega (arith, within))) are.1
-openings-bound card lines wavs setups number few each are = absurd are
-
 pub script-bound : (script : Script) (wavs : List Sound) (session : Session) → IsScript script → IsSessionOf script wavs session → AreBound session
-script-bound script wavs session is of_script number =
-    openings-bound script.card script.clients wavs session.clients number is.card.channels.high is.each_client of_script.clients
+script-bound script wavs session is of_script number = by_setup (slice_index_or session.clients number None) refl
+  where
+    by_setup : (setup : Option Setup) → slice_index_or session.clients number None ≡ setup → IfSome setup (λ (s : Setup). AreBindings s.bindings)
+    by_setup None none = tt
+    by_setup (Some s) setup_is =
+        let opened = opened-at script.card script.clients wavs session.clients number s of_script.clients setup_is in
+        opening-bound script.card opened.line opened.wav s is.card.channels.high
+        (subst (IsClientLine script.card) (get_or_from_slice_get script.clients number opened.line opened.line opened.line_is)
+        (is.each_client number opened.line (slice_get_within script.clients number opened.line opened.line_is))) opened.opening

@@ -1,31 +1,17 @@
 -- The runs of each reader of a run are of captured frames.
-use Rattle.run_laws.specs.Prelude.{arith, length, List, refl, subst, sym, ℕ, [], ◌+◌, ◌-◌, ◌<◌, ◌∙◌, ◌∷◌, ◌≡◌, ◌≤◌, eqb-true, nat_tests, append-nil, Bool}
-use Rattle.run_laws.specs.Prelude.{false, if◌then◌else◌, nat_eq, true, first_frame, all_runs, joined_runs, Outcome, runs_of, with_numbers, runs_by, Reader}
-use Rattle.run_laws.specs.Prelude.{AtPort, IsReached, no_reader, reader_at, AreCapturedRuns, AreRisingFrames, ReadersCapture}
+use Rattle.run_laws.specs.Prelude.{arith, List, refl, subst, sym, ℕ, [], ◌+◌, ◌-◌, ◌∙◌, ◌∷◌, ◌≡◌, ◌≤◌, nat_tests, first_frame, all_runs, joined_runs, Outcome}
+use Rattle.run_laws.specs.Prelude.{runs_of, with_numbers, runs_by, Reader, AtPort, no_reader, reader_at, AreCapturedRuns, AreRisingFrames, ReadersCapture}
 use Rattle.run_laws.proofs.Captured.{AreWithin, reader_at-within, run-within}
-use Rattle.run_laws.proofs.OwnLines.{numbered-at}
+use Rattle.run_laws.proofs.Numbered.{numbered-at}
 use Rattle.run_laws.proofs.OwnReaders.{runs-members}
 use Rattle.run_laws.proofs.ReaderFrames.{HasFrames, rising-end, rising-later}
-use Rattle.run_laws.proofs.RowStages.{reached-reportable}
 
 -- ---- the runs of frames that rise
 
 -- with one frame before the first run
 joined-captured : (least end frame : ℕ) (runs : List (ℕ × ℕ)) → least ≤ frame → frame + 1 ≤ end → AreCapturedRuns (frame + 1) end runs
     → AreCapturedRuns least end (joined_runs frame runs)
-joined-captured least end frame [] low few captured = (omega arith, low, few, tt)
-joined-captured least end frame ((first, count) ∷ runs) low few (some, past, within, rest) = by_test (nat_eq (frame + 1) first) refl
-  where
-    by_test : (next : Bool) → nat_eq (frame + 1) first ≡ next
-        → AreCapturedRuns least end (if next then (frame, count + 1) ∷ runs else (frame, 1) ∷ (first, count) ∷ runs)
-    by_test true is =
-        let same : frame + 1 ≡ first = eqb-true (frame + 1) first is in
-        let after : first + count + 1 ≡ frame + (count + 1) + 1 = omega (arith, same) in
-        let ends : frame + (count + 1) ≤ end = omega (arith, same, within) in
-        (omega arith, low, ends, subst (λ (n : ℕ). AreCapturedRuns n end runs) after rest)
-    by_test false is =
-        let behind : frame + 1 + 1 ≤ first = grind (arith, nat_tests, past, is) in
-        (omega arith, low, few, (some, behind, within, rest))
+joined-captured least end frame runs low few captured = grind (arith, nat_tests)
 
 runs-captured : (least end : ℕ) (frames : List ℕ) → AreRisingFrames least end frames → AreCapturedRuns least end (runs_of frames)
 runs-captured least end [] rising = tt
@@ -44,18 +30,12 @@ readers-capture script wavs session capture client_stops reader_stops outcome sc
     (reader-captured (first_frame session.card) run.end.position (reader_at session run.end number).1
     (reader_at-within (first_frame session.card) session run.end number inside).1)))
   where
-    reached : IsReached script wavs session script.body [] run.end
-    reached = record { script_is = script_is; session_is = session_is; body = sym (append-nil script.body); may = run.may }
-
     inside : AreWithin (first_frame session.card) run.end
     inside = run-within session run.end script.body run.may
 
-    there : number < length run.end.readers
-    there = subst (λ (n : ℕ). number < n) (sym (reached-reportable script wavs session script.body [] run.end reached).all_readers) within
-
     members : runs_by number (all_runs run.end.readers) ≡ runs_of (reader_at session run.end number).1.frames
     members = runs-members number (with_numbers (λ (reader : AtPort × Reader). runs_of reader.1.frames) 0 run.end.readers)
-        ∙ numbered-at (λ (reader : AtPort × Reader). runs_of reader.1.frames) number 0 number run.end.readers (no_reader session.ring) (omega arith) there
+        ∙ numbered-at (λ (reader : AtPort × Reader). runs_of reader.1.frames) (no_reader session.ring) number 0 number run.end.readers (omega arith) refl
 
     ends : run.end.position ≡ first_frame session.card + (run.end.position - first_frame session.card)
     ends = let low : first_frame session.card ≤ run.end.position = inside.low in omega (arith, low)

@@ -1,11 +1,11 @@
 -- What a line of a client is answered has a text in a report, and its state afterwards.
-use Rattle.run_laws.specs.Prelude.{None, Option, Some, subst, ℕ, [], ◌≡◌, Err, IfSome, Ok, Result, ⊤, PcmError, Call, Facts, State, Draining, Prepared, Running}
+use Rattle.run_laws.specs.Prelude.{arith, None, Option, Some, subst, ℕ, [], ◌≡◌, nat_tests, Err, IfSome, Ok, ⊤, PcmError, Call, Facts, State, Prepared, Running}
 use Rattle.run_laws.specs.Prelude.{next_of, Playback, refusal_of, Marks, Gives, Gives-any, Gives-map, PlaybackStream, Answered, committed_by, going_on}
-use Rattle.run_laws.specs.Prelude.{going_on_by, with_number, with_outcome, commits, CallLeaves, checks-done, CountLeaves, IsStart, rewind-counted, RewindLeaves}
-use Rattle.run_laws.specs.Prelude.{WriteLeaves, take_frames, taken_back, ring_sample, Sound, Op, Answer, HasStateText, HasText, after_call, call_of, Client}
-use Rattle.run_laws.specs.Prelude.{count_answer, done_answer, line_by, client_line-gives}
+use Rattle.run_laws.specs.Prelude.{with_number, with_outcome, commits, CallLeaves, checks-done, CountLeaves, IsStart, rewind-counted, RewindLeaves, WriteLeaves}
+use Rattle.run_laws.specs.Prelude.{take_frames, taken_back, ring_sample, Sound, Op, Answer, HasStateText, HasText, after_call, call_of, Client, line_by}
+use Rattle.run_laws.specs.Prelude.{client_line-gives}
 use Rattle.run_laws.proofs.EachCall.{call_of-gives, count_answer-gives}
-use Rattle.run_laws.proofs.TableLaws.{CanReport, CanReportIn, next-reports, refusal-reports, reported-reports}
+use Rattle.run_laws.proofs.TableLaws.{CanReport, CanReportIn, next-reports, refusal-reports, count-text, done-text}
 use Rattle.pcm_states.specs.declared.calls.Call.TheVariants as call
 
 -- a client's state has a text
@@ -18,15 +18,8 @@ Reports (d, r) = CanReportIn r × HasState d
 
 -- ---- the parts of a call
 
-going_on-reports : (c : PlaybackStream) (s refused : State) (r : Result (Unit {0}) PcmError) → HasStateText s → HasStateText refused → CanReportIn r
-    → Reports (going_on_by r c s refused)
-going_on-reports c s refused (Ok done) is other reports = (tt, is)
-going_on-reports c s refused (Err e) is other reports = (reports, other)
-
 begun-reports : (c : PlaybackStream) (s : State) (f : Facts) → HasStateText s → Reports (going_on c s (next_of Prepared call.Start f))
-begun-reports c s f is =
-    let o = next-reports Prepared call.Start f tt in
-    going_on-reports c s (next_of Prepared call.Start f).state (next_of Prepared call.Start f).answer is o.1 o.0
+begun-reports c s f is = grind (arith, nat_tests)
 
 number-reports : (number : PlaybackStream → ℕ) (done : Answered (Unit {0})) → Reports done → Reports (with_number number done)
 number-reports number (c, Ok done) reports = (tt, reports.1)
@@ -34,9 +27,7 @@ number-reports number (c, Err e) reports = reports
 
 -- a state that a start leads to has a text
 start-text : (s : State) → IsStart s → HasStateText s
-start-text Running start = tt
-start-text Draining start = tt
-start-text other start = elim start [ ]
+start-text other start = grind (arith, nat_tests)
 
 refused-reports : (c : PlaybackStream) (asked : Call) (e : PcmError) → HasState c → refusal_of Playback c.status asked ≡ Some e → CanReport e
 refused-reports c asked e is refusal = subst (λ (o : Option PcmError). IfSome o CanReport) refusal (refusal-reports Playback c.status asked is)
@@ -67,13 +58,7 @@ counts-reports : CountLeaves HasState Reports Reports
 counts-reports = record { fails = λ c e reports. reports; numbered = λ c n is. (tt, is) }
 
 writes-reports : (n : ℕ) → WriteLeaves HasState (λ x. ⊤) Reports Reports n
-writes-reports n = record {
-  fails = λ c e reports. reports;
-  stopped = λ c is. (tt, is);
-  full = λ c is. (tt, is);
-  outcome = λ c x f is any same. next-reports Running call.Transfer f tt;
-  accepts = λ c d done is reports. (tt, reports.1);
-}
+writes-reports n = grind (arith, nat_tests)
 
 rewinds-reports : RewindLeaves HasState (λ x. ⊤) Reports Reports
 rewinds-reports = record {
@@ -93,17 +78,9 @@ rewinds-reports = record {
 abbrev IsSaid : PlaybackStream × Answer → Type 0
 IsSaid (d, answer) = HasText answer × HasState d
 
-done-said : (x : Answered (Unit {0})) → Reports x → IsSaid (x.0, done_answer x.1)
-done-said (d, Ok done) reports = (tt, reports.1)
-done-said (d, Err e) reports = (reported-reports e reports.0, reports.1)
-
-count-said : (x : Answered ℕ) → Reports x → IsSaid (x.0, count_answer x.1)
-count-said (d, Ok n) reports = (tt, reports.1)
-count-said (d, Err e) reports = (reported-reports e reports.0, reports.1)
-
 call-said : (wav : Sound) (marks : Marks) (c : PlaybackStream) (asked : Op) → HasState c → Gives IsSaid (call_of wav marks c asked)
-call-said wav marks c asked is = call_of-gives leaves-reports counts-reports writes-reports IsSaid done-said count-said (λ d text. (tt, text)) wav marks c asked is
-    (λ n same. count_answer-gives Reports IsSaid _ count-said (rewind-counted rewinds-reports c [] marks.floor n is))
+call-said wav marks c asked is = call_of-gives leaves-reports counts-reports writes-reports IsSaid (λ x reports. (done-text x.1 reports.0, reports.1)) (λ x reports. (count-text x.1 reports.0, reports.1)) (λ d text. (tt, text)) wav marks c asked is
+    (λ n same. count_answer-gives Reports IsSaid _ (λ x reports. (count-text x.1 reports.0, reports.1)) (rewind-counted rewinds-reports c [] marks.floor n is))
 
 -- a client that is open has a state with a text
 abbrev pub IsReportable : Option PlaybackStream → Type 0

@@ -1,7 +1,7 @@
 -- A run that the script settles is the only one, and each actor does in it what it does by itself.
-use Rattle.run_laws.specs.Prelude.{ap, arith, List, Option, subst, sym, ℕ, ◌∙◌, ◌≡◌, Bool, Sound, Actor, Item, Report, Script, IsOneRun, lab_text, LabRun}
-use Rattle.run_laws.specs.Prelude.{Outcome, IsSessionOf, answers_of, AreAlone, client_alone, client_part, HaveLines, IsClientAlone, IsReaderAlone, rows_by}
-use Rattle.run_laws.specs.Prelude.{AreUnmixed, is_client, is_reader, Session}
+use Rattle.run_laws.specs.Prelude.{arith, List, Option, subst, sym, ℕ, ◌∙◌, ◌≡◌, nat_tests, Bool, Sound, Actor, Item, Report, Script, IsOneRun, lab_text}
+use Rattle.run_laws.specs.Prelude.{LabRun, Outcome, IsSessionOf, AreAlone, client_alone, client_part, HaveLines, IsClientAlone, IsReaderAlone, AreUnmixed}
+use Rattle.run_laws.specs.Prelude.{is_client, is_reader, Session}
 use Rattle.run_laws.specs.Exact.{DoesTheSame, HasSameClient, IsExactRun, IsOwnRun, IsUnstoppedRun}
 use Rattle.run_laws.proofs.RowStages.{client_openings-size, reader_openings-size}
 
@@ -46,8 +46,4 @@ part-same session body other other_body number same =
 pub alone-same : (session : Session) (body : List Item) (report : Report) (other : Session) (other_body : List Item) (other_report : Report) (number : ℕ)
     → HasSameClient session body other other_body number → IsClientAlone session body report number → IsClientAlone other other_body other_report number
     → DoesTheSame report other_report number
-alone-same session body report other other_body other_report number same one two answers =
-    let parts : client_part session body number (answers_of (rows_by (is_client number) report.rows))
-    ≡ client_part other other_body number (answers_of (rows_by (is_client number) other_report.rows))
-    = λ k. part-same session body other other_body number same k (answers k) in
-    (one.rows ∙ ap (λ p. p.0) parts ∙ sym two.rows, one.segments ∙ ap (λ p. p.1) parts ∙ sym two.segments)
+alone-same session body report other other_body other_report number same one two answers = grind (arith, nat_tests)

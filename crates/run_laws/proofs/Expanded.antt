@@ -24,20 +24,25 @@ other-channels member bindings sample_of card frame channel [] is are = refl
 other-channels member bindings sample_of card frame channel (q ∷ qs) is are =
     rw is (rw are.0 (other-channels member bindings sample_of card frame channel qs is are.1))
 
--- the first channels of a rising list are before the next one
-before-next : (bindings list : List ℕ) (part : ℕ) → part < length list
-    → ((i j : ℕ) → i < j → j < length list → slice_index bindings (slice_index list i) < slice_index bindings (slice_index list j))
-    → AreOther bindings (slice_index bindings (slice_index list part)) (take part list)
-before-next bindings [] part low rises = absurd (omega (arith, low))
-before-next bindings (q ∷ list) zero low rises = tt
-before-next bindings (q ∷ list) (suc part) low rises =
-    let less : slice_index bindings q < slice_index bindings (slice_index list part) = rises 0 (suc part) (omega arith) low in
-    (grind (arith, nat_tests, less), before-next bindings list part (omega (arith, low)) (λ i j before within. rises (suc i) (suc j) (omega (arith, before)) (omega (arith, within))))
+-- the first ones of a list, where none of them is
+pub others-than : (bindings : List ℕ) (channel : ℕ) (list : List ℕ) (n : ℕ)
+    → ((j : ℕ) → j < n → j < length list → (slice_index bindings (slice_index list j) == channel) ≡ false) → AreOther bindings channel (take n list)
+others-than bindings channel [] zero none = tt
+others-than bindings channel [] (suc n) none = tt
+others-than bindings channel (q ∷ list) zero none = tt
+others-than bindings channel (q ∷ list) (suc n) none =
+    (none 0 (omega arith) (omega arith), others-than bindings channel list n (λ j below within. none (suc j) (omega (arith, below)) (omega (arith, within))))
 
+less-other : (a b : ℕ) → a < b → (a == b) ≡ false
+less-other a b less = grind (arith, nat_tests)
+
+-- the first channels of a rising list are before the next one
 rising-before : (bindings : List ℕ) (part : ℕ) → part < length (rising bindings)
     → AreOther bindings (slice_index bindings (slice_index (rising bindings) part)) (take part (rising bindings))
 unfolding rising
-rising-before bindings part low = before-next bindings (rising bindings) part low (rising_from-rises bindings 0 256)
+rising-before bindings part low = others-than bindings (slice_index bindings (slice_index (rising bindings) part)) (rising bindings) part
+    (λ j below within. less-other (slice_index bindings (slice_index (rising bindings) j)) (slice_index bindings (slice_index (rising bindings) part))
+    (rising_from-rises bindings 0 256 j part below low))
 
 -- ---- lists of entries, one after the other
 
@@ -79,13 +84,18 @@ module _ (member : ℕ) (segment : Segment) (samples : List ℤ) (bindings : Lis
 
 -- ---- the entries of a client's segment
 
--- a fact of no entries, and of those of each segment of a client with a file and a setup, is one of a client's segment
-pub entries-so : (session : Session) (n : ℕ) (s : Segment) (P : List Entry → Type 0) → P []
-    → ((wav : Sound) (setup : Setup) → slice_get session.sounds n ≡ Some wav → slice_index_or session.clients n None ≡ Some setup → P (expand n s wav.samples setup.bindings))
-    → P (entries_by session (n, s))
-entries-so session n s P none some = by_file (slice_get session.sounds n) (slice_index_or session.clients n None) refl refl
+-- a fact of no entries, and of those of the segments of a client with a file and a setup, is one of a client's segments
+pub entries-each : (session : Session) (n : ℕ) (P : (Segment → List Entry) → Type 0) → P (λ s. [])
+    → ((wav : Sound) (setup : Setup) → slice_get session.sounds n ≡ Some wav → slice_index_or session.clients n None ≡ Some setup → P (λ s. expand n s wav.samples setup.bindings))
+    → P (λ s. entries_by session (n, s))
+entries-each session n P none some = by_file (slice_get session.sounds n) (slice_index_or session.clients n None) refl refl
   where
-    by_file : (wav : Option Sound) (setup : Option Setup) → slice_get session.sounds n ≡ wav → slice_index_or session.clients n None ≡ setup → P (entries_by session (n, s))
+    by_file : (wav : Option Sound) (setup : Option Setup) → slice_get session.sounds n ≡ wav → slice_index_or session.clients n None ≡ setup → P (λ s. entries_by session (n, s))
     by_file (Some wav) (Some setup) wav_is setup_is = rw wav_is (rw setup_is (some wav setup wav_is setup_is))
     by_file None setup wav_is setup_is = rw wav_is none
     by_file (Some wav) None wav_is setup_is = rw wav_is (rw setup_is none)
+
+pub entries-so : (session : Session) (n : ℕ) (s : Segment) (P : List Entry → Type 0) → P []
+    → ((wav : Sound) (setup : Setup) → slice_get session.sounds n ≡ Some wav → slice_index_or session.clients n None ≡ Some setup → P (expand n s wav.samples setup.bindings))
+    → P (entries_by session (n, s))
+entries-so session n s P none some = entries-each session n (λ entries. P (entries s)) none some

@@ -1,13 +1,12 @@
 -- What is so of a run's readers in each of its stages.
-use Rattle.run_laws.specs.Prelude.{arith, length, List, None, Option, refl, Some, subst, sym, ℕ, [], ◌++◌, ◌+◌, ◌<◌, ◌∷◌, ◌≡◌, append_assoc, length-append}
-use Rattle.run_laws.specs.Prelude.{Bool, Err, false, map, Ok, Result, slice_index_or, slice_set, true, PcmError, PlaybackStream, CaptureStream, Actor, Item, Op}
-use Rattle.run_laws.specs.Prelude.{Answer, claim_refusal, is_reader_stopped, ItemMay, ItemsMay, reader_kinds, reaped_reader, reaped_reader_if, rules_of}
-use Rattle.run_laws.specs.Prelude.{LineMay, is_reader, ops_by, after_attach, Lobby, Reader, reader_kind, AtPort, Rules, after_close, after_open}
-use Rattle.run_laws.specs.Prelude.{attached_client, claimed_client, client_at, close_client, close_reader, ended_reader, no_reader, open_client}
-use Rattle.run_laws.specs.Prelude.{open_client_with, open_reader, open_reader_with, opened_reader, reader_at, renewed_port, Session, Setup, Stage}
+use Rattle.run_laws.specs.Prelude.{arith, length, List, None, refl, Some, subst, sym, ℕ, [], ◌++◌, ◌+◌, ◌<◌, ◌∷◌, ◌≡◌, nat_tests, append_assoc, length-append}
+use Rattle.run_laws.specs.Prelude.{Bool, false, map, slice_index_or, slice_set, true, Actor, Item, Op, Answer, is_reader_stopped, ItemMay, ItemsMay}
+use Rattle.run_laws.specs.Prelude.{reader_kinds, reaped_reader, reaped_reader_if, rules_of, LineMay, is_reader, ops_by, Reader, reader_kind, AtPort, Rules}
+use Rattle.run_laws.specs.Prelude.{after_close, after_open, ended_reader, no_reader, opened_reader, renewed_port, Session, Setup, Stage, AtBorder, closes-to}
+use Rattle.run_laws.specs.Prelude.{opens-to}
 use Rattle.run_laws.proofs.Stages.{each-walked, middle-at, middle-set}
-use Rattle.lab_lines.specs.declared.line.Actor.TheVariants as actor
 use Rattle.lab_lines.specs.declared.line.Item.TheVariants as item
+use Rattle.lab_lines.specs.declared.line.Op.TheVariants as op
 
 -- the reader of a number
 abbrev pub read_at : Session → List (AtPort × Reader) → ℕ → AtPort × Reader
@@ -25,47 +24,14 @@ module _ (session : Session) (R : List (AtPort × Reader) → Type 0)
     → R (slice_set readers n (reader_opened session readers n setup)))
     (ends : (readers : List (AtPort × Reader)) (n : ℕ) → R readers → R (slice_set readers n (ended_reader session.ring (read_at session readers n)))) where
   -- a client is opened and closed without a change of the readers
-  client-opens : (stage : Stage) (n : ℕ) (own : Option PlaybackStream) → R stage.readers → R (open_client session stage n (client_at session stage n) own).readers
-  client-opens stage n (Some c) so = so
-  client-opens stage n None so = by_setup (slice_index_or session.clients n None)
-    where
-      by_answer : (setup : Setup) (to : Lobby × Result (Unit {0}) PcmError) → R (attached_client session stage n setup (client_at session stage n) to).readers
-      by_answer setup (lobby, Ok done) = so
-      by_answer setup (lobby, Err e) = so
-
-      by_claim : (setup : Setup) (refusal : Option PcmError) → R (claimed_client session stage n setup (client_at session stage n) refusal).readers
-      by_claim setup (Some e) = so
-      by_claim setup None = by_answer setup (after_attach n stage.position stage.lobby)
-
-      by_setup : (setup : Option Setup) → R (open_client_with session stage n setup (client_at session stage n)).readers
-      by_setup None = so
-      by_setup (Some setup) = by_claim setup (claim_refusal session.card.share stage.claims setup.bindings stage.position)
-
-  client-closes : (stage : Stage) (n : ℕ) (own : Option PlaybackStream) → R stage.readers → R (close_client session stage n (client_at session stage n) own).readers
-  client-closes stage n None so = so
-  client-closes stage n (Some c) so = so
-
-  reader-opens : (stage : Stage) (n : ℕ) (own : Option CaptureStream) → R stage.readers → R (open_reader session stage n (reader_at session stage n) own).readers
-  reader-opens stage n (Some r) so = so
-  reader-opens stage n None so = by_setup (slice_index_or session.readers n None) refl
-    where
-      by_setup : (setup : Option Setup) → slice_index_or session.readers n None ≡ setup → R (open_reader_with session stage n setup (reader_at session stage n)).readers
-      by_setup None is = so
-      by_setup (Some setup) is = opens stage.readers n setup is so
-
-  reader-closes : (stage : Stage) (n : ℕ) (own : Option CaptureStream) → R stage.readers → R (close_reader session stage n (reader_at session stage n) own).readers
-  reader-closes stage n None so = so
-  reader-closes stage n (Some r) so = ends stage.readers n so
+  border-held : (stage : Stage) (who : Actor) (asked : Op) → R stage.readers → AtBorder session stage who asked (λ after. R after.readers)
+  border-held stage who asked so = grind (arith, nat_tests)
 
   pub opening-held : (stage : Stage) (who : Actor) → R stage.readers → R (after_open session stage who).readers
-  opening-held stage actor.Card so = so
-  opening-held stage (actor.Client n) so = client-opens stage n (client_at session stage n).1.own so
-  opening-held stage (actor.Reader n) so = reader-opens stage n (reader_at session stage n).1.own so
+  opening-held stage who so = opens-to session stage (λ after. R after.readers) who (border-held stage who op.Opens so)
 
   pub closing-held : (stage : Stage) (who : Actor) → R stage.readers → R (after_close session stage who).readers
-  closing-held stage actor.Card so = so
-  closing-held stage (actor.Client n) so = client-closes stage n (client_at session stage n).1.own so
-  closing-held stage (actor.Reader n) so = reader-closes stage n (reader_at session stage n).1.own so
+  closing-held stage who so = closes-to session stage (λ after. R after.readers) who (border-held stage who op.Closes so)
 
 -- ---- the items of a body
 

@@ -1,8 +1,7 @@
 -- A reader that couldn't be opened has no frames.
-use Rattle.run_laws.specs.Prelude.{ap, arith, List, None, Option, refl, Some, subst, sym, ℕ, [], ◌∙◌, ◌∷◌, ◌≡◌, map, slice_index_or, slice_set, suc, zero}
-use Rattle.run_laws.specs.Prelude.{Gives, Gives-taken, Sound, Item, Op, Answer, LabRun, Outcome, runs_of, with_numbers, LineMay, runs_by, Reader, reader_kind}
-use Rattle.run_laws.specs.Prelude.{AtPort, MayGet, MayLay, MayLoad, Rules, first_stage, no_reader, reader_at, Session, Setup, UnopenedHaveNoRuns}
-use Rattle.lab_run.specs.Reader.{begins, line_by}
+use Rattle.run_laws.specs.Prelude.{ap, arith, List, None, Option, refl, Some, subst, sym, ℕ, [], ◌∙◌, ◌≡◌, get_or-map, nat_tests, map, slice_index_or}
+use Rattle.run_laws.specs.Prelude.{slice_set, Sound, Item, Op, Answer, LabRun, Outcome, runs_of, with_numbers, LineMay, runs_by, Reader, reader_kind, AtPort}
+use Rattle.run_laws.specs.Prelude.{Rules, first_stage, no_reader, reader_at, Session, UnopenedHaveNoRuns}
 use Rattle.run_laws.proofs.HeldReaders.{IsLastingOfReaders, read_at, readers-held}
 use Rattle.run_laws.proofs.Numbered.{numbered-at}
 use Rattle.run_laws.proofs.OwnReaders.{runs-members}
@@ -24,10 +23,7 @@ module _ (session : Session) where
 
   line-unopened : (rules : Rules) (phase n : ℕ) (x y : AtPort × Reader) (asked : Op) (answer : Answer) → LineMay (reader_kind phase n) rules x asked y answer
       → Unopened n x → Unopened n y
-  line-unopened rules phase n (a, reader) (b, after) asked answer may is none = let idle = is none in
-      Gives-taken (MayLoad rules) (MayLay rules) (MayGet rules) (λ (x : Reader × Answer). IsIdle x.0) (begins reader.own asked a) b
-      (line_by reader reader.own asked) (after, answer)
-      (subst (λ own. Gives (λ (x : Reader × Answer). IsIdle x.0) (line_by reader own asked)) (sym idle.0) idle) may
+  line-unopened rules phase n x y asked answer may is none = grind (arith, nat_tests)
 
   unopened-held : IsLastingOfReaders session AreUnopened
   unopened-held = record {
@@ -36,10 +32,8 @@ module _ (session : Session) where
     ends = λ readers n are. set-unopened readers n _ (λ none. (refl, (are n none).1)) are;
   }
 
-  first-unopened : (setups : List (Option Setup)) (n : ℕ) → IsIdle (read_at session (map (λ setup. no_reader session.ring) setups) n).1
-  first-unopened [] n = (refl, refl)
-  first-unopened (setup ∷ setups) zero = (refl, refl)
-  first-unopened (setup ∷ setups) (suc n) = first-unopened setups n
+  first-unopened : (n : ℕ) → IsIdle (read_at session (map (λ setup. no_reader session.ring) session.readers) n).1
+  first-unopened n = subst (λ (x : AtPort × Reader). IsIdle x.1) (sym (get_or-map (λ setup. no_reader session.ring) session.readers n None)) (refl, refl)
 
 pub LabRun-unopened : (session : Session) (capture : Option Sound) (body : List Item) (client_stops reader_stops : ℕ → ℕ) (outcome : Outcome)
     → LabRun session capture body client_stops reader_stops outcome → UnopenedHaveNoRuns session outcome.report
@@ -52,4 +46,4 @@ LabRun-unopened session capture body client_stops reader_stops outcome run numbe
   where
     idle : IsIdle (reader_at session run.end number).1
     idle = readers-held session (AreUnopened session) (unopened-held session) (first_stage session) run.end body run.may
-        (λ n setup. first-unopened session session.readers n) number none
+        (λ n setup. first-unopened session n) number none

@@ -7,10 +7,9 @@ mod Captured
 pub mod CapturedRuns
 mod ClientCalls
 mod ClientSums
-mod CommitCounts
 mod EachCall
 mod Exactly
-mod Expanded
+pub mod Expanded
 mod FileCalls
 mod FileLines
 mod FromFiles
@@ -28,18 +27,15 @@ mod Lists
 mod Missed
 mod Mixes
 mod Numbered
-mod NumberedStages
-mod OnePlayed
+pub mod OnePlayed
 mod OneSample
 mod Onward
 mod OnwardCalls
 mod OnwardLines
-mod Openings
 mod OwnActors
 mod OwnClients
 mod OwnLines
 mod OwnReaders
-mod PlayedCalls
 mod PlayedCourses
 mod PlayedLines
 mod PlayedSegments
@@ -47,13 +43,13 @@ mod PlayedStages
 mod Published
 mod ReaderCalls
 mod ReaderFrames
-mod Recorded
+pub mod Recorded
 mod Requests
 mod RowLines
 mod RowStages
 mod RunGoesOn
 pub mod Runs
-mod SampleSizes
+pub mod SampleSizes
 mod Sealed
 mod Sizes
 mod SliceItems
@@ -62,3 +58,4 @@ mod Sole
 mod Stages
 mod TableLaws
 mod Withdrawn
+mod Yields

@@ -32,7 +32,7 @@ module _ (session : Session) (list : List Segment) (n : ℕ) where
   pub over-held : IsLasting session OverAt
   over-held = record {
     line = λ rules phase clients claims position m y asked answer least within may over. over-set clients m y over (λ before.
-        over-line list rules phase (slice_index_or session.sounds m no_sound) m (at session clients m).0 y.0 (at session clients m).1 y.1 asked answer before may);
+        over-line rules phase (slice_index_or session.sounds m no_sound) m (at session clients m).0 y.0 (at session clients m).1 y.1 asked answer may list before);
     opens = λ clients claims position m setup is closed granted over.
         over-set clients m (client_opened session clients m setup) over (over-opens list (at session clients m).1 (Some (opened_client session.ring m setup)) closed);
     ends = λ clients claims position m c within is over.

@@ -20,7 +20,7 @@ silence = record { low = omega (arith, ints); high = omega (arith, ints) }
 
 -- ---- entries of samples
 
-abbrev AreEntries : List Entry → Type 0
+abbrev pub AreEntries : List Entry → Type 0
 AreEntries es = AllByRecursion (λ (e : Entry). IsSample (value_of e)) es
 
 flat-entries : {X : Type 0} (f : X → List Entry) (xs : List X) → ((x : X) → AreEntries (f x)) → AreEntries (flat_map f xs)
@@ -56,7 +56,7 @@ frame-samples member bindings sample_of n card each = by_list (take n (rising bi
     by_list [] = tt
     by_list (q ∷ qs) = (each q, by_list qs)
 
-expand-samples : (member : ℕ) (segment : Segment) (samples : List ℤ) (bindings : List ℕ) → AllByRecursion IsSample samples → AreEntries (expand member segment samples bindings)
+pub expand-samples : (member : ℕ) (segment : Segment) (samples : List ℤ) (bindings : List ℕ) → AllByRecursion IsSample samples → AreEntries (expand member segment samples bindings)
 expand-samples member segment samples bindings each =
     each-append (λ (e : Entry). IsSample (value_of e)) (flat_map (λ j. frame_entries member bindings (of_file j) (length bindings) (segment.card + j)) (range_with_len 0 segment.whole)) _
     (flat-entries (λ j. frame_entries member bindings (of_file j) (length bindings) (segment.card + j)) (range_with_len 0 segment.whole)
@@ -69,7 +69,7 @@ expand-samples member segment samples bindings each =
     sampled : (j q : ℕ) → IsSample (of_file j q)
     sampled j q = sample-of samples _ each
 
-file-of : (wavs : List Sound) (number : ℕ) (wav : Sound) → AllByRecursion (λ (w : Sound). All IsSample w.samples) wavs → slice_get wavs number ≡ Some wav
+pub file-of : (wavs : List Sound) (number : ℕ) (wav : Sound) → AllByRecursion (λ (w : Sound). All IsSample w.samples) wavs → slice_get wavs number ≡ Some wav
     → AllByRecursion IsSample wav.samples
 file-of [] number wav each is = absurd (let none = is in cc)
 file-of (w ∷ wavs) zero wav each is = let same : w ≡ wav = cc in

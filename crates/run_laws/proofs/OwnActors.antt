@@ -1,37 +1,47 @@
 -- What an actor of any kind does where no phase leaves a choice is what it does by itself.
-use Rattle.run_laws.specs.Prelude.{ap, length, List, refl, sym, ℕ, [], ◌++◌, ◌+◌, ◌<◌, ◌∙◌, ◌∷◌, ◌≡◌, ◌≢◌, eq-eqb, append-nil, append_assoc, map-append}
-use Rattle.run_laws.specs.Prelude.{filter-append, Bool, false, filter, map, nat_eq, slice_index_or, true, Actor, Item, Line, Op, Answer, Row, first_frame}
-use Rattle.run_laws.specs.Prelude.{unplugs, item_text, items_text, phase_text, lines_text, Alone, alone_at, alone_by, answers_of, close_alone, Given, HasLines}
-use Rattle.run_laws.specs.Prelude.{HaveLines, is_opening, NoneOpen, open_alone, own_close, own_item, own_items, own_open, OwnItem, phase_alone, reaped_by}
-use Rattle.run_laws.specs.Prelude.{rows_by, ops_by, played_in, AtPort, CardEnd, after_close, after_open, first_stage, Session, Stage, Border, close-by, open-by}
+use Rattle.run_laws.specs.Prelude.{ap, length, List, None, Option, refl, Some, sym, ℕ, [], ◌++◌, ◌+◌, ◌<◌, ◌∙◌, ◌∷◌, ◌≡◌, ◌≢◌, eq-eqb, append-nil, append_assoc}
+use Rattle.run_laws.specs.Prelude.{map-append, filter-append, Bool, false, filter, if◌then◌else◌, map, nat_eq, slice_index_or, true, PlaybackStream}
+use Rattle.run_laws.specs.Prelude.{CaptureStream, Actor, Item, Line, Op, Answer, Row, first_frame, unplugs, item_text, items_text, phase_text, lines_text}
+use Rattle.run_laws.specs.Prelude.{Alone, alone_at, alone_by, answers_of, close_alone, Given, HasLines, HaveLines, is_opening, NoneOpen, open_alone, own_close}
+use Rattle.run_laws.specs.Prelude.{own_item, own_items, own_open, OwnItem, phase_alone, reaped_by, rows_by, ops_by, played_in, AtPort, CardEnd, after_close}
+use Rattle.run_laws.specs.Prelude.{after_open, first_stage, Session, Stage, Border, close-by, open-by}
 use Rattle.run_laws.proofs.OwnLines.{other-row, own-row, none-answers}
+use Rattle.lab_lines.specs.declared.line.Actor.TheVariants as actor
+use Rattle.lab_run.specs.Client as clients
+use Rattle.lab_run.specs.Reader as readers
 use Rattle.lab_lines.specs.declared.line.Item.TheVariants as item
+
+-- whose the row of a client's line is, and of a reader's, and of which line
+pub client_row-is : (phase m : ℕ) (asked : Op) (own : Option PlaybackStream) (answer : Answer)
+    → ((clients.row_by phase m asked own answer).actor ≡ actor.Client m) × ((clients.row_by phase m asked own answer).op ≡ asked)
+client_row-is phase m asked None answer = (refl, refl)
+client_row-is phase m asked (Some c) answer = (refl, refl)
+
+pub reader_row-is : (phase m : ℕ) (asked : Op) (own : Option CaptureStream) (answer : Answer)
+    → ((readers.row_by phase m asked own answer).actor ≡ actor.Reader m) × ((readers.row_by phase m asked own answer).op ≡ asked)
+reader_row-is phase m asked None answer = (refl, refl)
+reader_row-is phase m asked (Some r) answer = (refl, refl)
 
 -- what a stage is to one actor
 abbrev pub view_of : {S : Type 0} → (Actor → Bool) → AtPort × S → Stage → Alone S
 view_of is_theirs x stage =
     record { phases = stage.phases; position = stage.position; gone = stage.gone; actor = x; rows = rows_by is_theirs stage.rows }
 
+-- with other rows
+with-view : {S : Type 0} (is_theirs : Actor → Bool) (x y : AtPort × S) (stage : Stage) (rows own : List Row) → y ≡ x → rows_by is_theirs rows ≡ own
+    → view_of is_theirs y (record stage { rows = rows }) ≡ record (view_of is_theirs x stage) { rows = own }
+with-view is_theirs x y stage rows own same is =
+    λ i. record { phases = stage.phases; position = stage.position; gone = stage.gone; actor = same i; rows = is i }
+
 -- with a row of another actor, and with a row of this one
 pub other-view : {S : Type 0} (is_theirs : Actor → Bool) (x y : AtPort × S) (stage : Stage) (row : Row) → y ≡ x → is_theirs row.actor ≡ false
     → view_of is_theirs y (record stage { rows = stage.rows ++ row ∷ [] }) ≡ view_of is_theirs x stage
-other-view is_theirs x y stage row same is = λ i. record {
-  phases = stage.phases;
-  position = stage.position;
-  gone = stage.gone;
-  actor = same i;
-  rows = other-row is_theirs stage.rows row is i;
-}
+other-view is_theirs x y stage row same is = with-view is_theirs x y stage (stage.rows ++ row ∷ []) (rows_by is_theirs stage.rows) same (other-row is_theirs stage.rows row is)
 
 pub own-view : {S : Type 0} (is_theirs : Actor → Bool) (y z : AtPort × S) (stage : Stage) (row : Row) → y ≡ z → is_theirs row.actor ≡ true
     → view_of is_theirs y (record stage { rows = stage.rows ++ row ∷ [] }) ≡ record (view_of is_theirs z stage) { rows = rows_by is_theirs stage.rows ++ row ∷ [] }
-own-view is_theirs y z stage row same is = λ i. record {
-  phases = stage.phases;
-  position = stage.position;
-  gone = stage.gone;
-  actor = same i;
-  rows = own-row is_theirs stage.rows row is i;
-}
+own-view is_theirs y z stage row same is =
+    with-view is_theirs z y stage (stage.rows ++ row ∷ []) (rows_by is_theirs stage.rows ++ row ∷ []) same (own-row is_theirs stage.rows row is)
 
 -- what an item makes of an actor: rows of its own, and what the actor makes of its own item by itself
 pub record ItemAlone {S : Type 0} (given : Given S) (before after : Alone S) (own : List OwnItem) : Type 0 where
@@ -47,6 +57,11 @@ other-item given before after own none is = record {
   alone = λ rest answers. rw none (ap (λ a. alone_by given a rest answers) (sym is));
 }
 
+-- the answers of openings that a row has
+answers-one : (opens : Bool) (row : Row) → is_opening row.op ≡ opens → answers_of (row ∷ []) ≡ (if opens then row.answer ∷ [] else [])
+answers-one true row is = rw is refl
+answers-one false row is = rw is refl
+
 -- the row of an opening of this actor, and of a closing, by what the actor is afterwards
 pub opens-own : {S : Type 0} (given : Given S) (is_theirs : Actor → Bool) (x y z : AtPort × S) (stage : Stage) (row : Row) → is_opening row.op ≡ true → is_theirs row.actor ≡ true → y ≡ z
     → record (view_of is_theirs z stage) { rows = rows_by is_theirs stage.rows ++ row ∷ [] } ≡ open_alone given (view_of is_theirs x stage) row.answer
@@ -54,12 +69,9 @@ pub opens-own : {S : Type 0} (given : Given S) (is_theirs : Actor → Bool) (x y
 opens-own given is_theirs x y z stage row opening own same is = record {
   more = row ∷ [];
   rows = own-row is_theirs stage.rows row own;
-  alone = λ rest answers. ap (λ xs. alone_by given (view_of is_theirs x stage) (own_open ∷ rest) (xs ++ answers)) (answer_of opening)
+  alone = λ rest answers. ap (λ xs. alone_by given (view_of is_theirs x stage) (own_open ∷ rest) (xs ++ answers)) (answers-one true row opening)
       ∙ ap (λ a. alone_by given a rest answers) (sym (own-view is_theirs y z stage row same own ∙ is));
 }
-  where
-    answer_of : is_opening row.op ≡ true → answers_of (row ∷ []) ≡ row.answer ∷ []
-    answer_of e = rw e refl
 
 pub closes-own : {S : Type 0} (given : Given S) (is_theirs : Actor → Bool) (x y z : AtPort × S) (stage : Stage) (row : Row) → is_opening row.op ≡ false → is_theirs row.actor ≡ true → y ≡ z
     → record (view_of is_theirs z stage) { rows = rows_by is_theirs stage.rows ++ row ∷ [] } ≡ close_alone given (view_of is_theirs x stage)
@@ -67,12 +79,9 @@ pub closes-own : {S : Type 0} (given : Given S) (is_theirs : Actor → Bool) (x 
 closes-own given is_theirs x y z stage row closing own same is = record {
   more = row ∷ [];
   rows = own-row is_theirs stage.rows row own;
-  alone = λ rest answers. ap (λ xs. alone_by given (view_of is_theirs x stage) (own_close ∷ rest) (xs ++ answers)) (none closing)
+  alone = λ rest answers. ap (λ xs. alone_by given (view_of is_theirs x stage) (own_close ∷ rest) (xs ++ answers)) (answers-one false row closing)
       ∙ ap (λ a. alone_by given a rest answers) (sym (own-view is_theirs y z stage row same own ∙ is));
 }
-  where
-    none : is_opening row.op ≡ false → answers_of (row ∷ []) ≡ []
-    none e = rw e refl
 
 -- no test has both answers
 pub both : {b : Bool} → b ≡ true → b ≡ false → ⊥
@@ -149,10 +158,6 @@ module _ {S : Type 0} (session : Session) (own : Own S) (is : IsOwn session own)
   item-size stage (item.Closes number who) = (close-by session stage (LeavesOthers own who stage) who (is.border stage who)).size
   item-size stage (item.Phase lines) = is.size stage lines
 
-  pub items-size : (stage : Stage) (items : List Item) → length (own.actors (items_text session stage items)) ≡ length (own.actors stage)
-  items-size stage [] = refl
-  items-size stage (one ∷ items) = items-size (item_text session stage one) items ∙ item-size stage one
-
   phase-alone : (stage : Stage) (lines : List Line) → own.number < length (own.actors stage) → NoneOpen (ops_by own.is_theirs lines)
       → ItemAlone own.given (view own stage) (view own (phase_text session stage lines)) (own_item own.is_theirs (item.Phase lines))
   phase-alone stage lines there none = record {
@@ -175,22 +180,19 @@ module _ {S : Type 0} (session : Session) (own : Own S) (is : IsOwn session own)
         rows = phase.rows i;
       }
 
-  open-alone : (stage : Stage) (who : Actor) (mine : Bool) → own.is_theirs who ≡ mine → own.number < length (own.actors stage)
-      → ItemAlone own.given (view own stage) (view own (after_open session stage who)) (own_item own.is_theirs (item.Opens 0 who))
-  open-alone stage who true mine there = rw mine (is.opens stage who mine there)
-  open-alone stage who false mine there =
-      other-item own.given _ _ _ (rw mine refl) ((open-by session stage (LeavesOthers own who stage) who (is.border stage who)).same mine)
-
-  close-alone : (stage : Stage) (who : Actor) (mine : Bool) → own.is_theirs who ≡ mine → own.number < length (own.actors stage)
-      → ItemAlone own.given (view own stage) (view own (after_close session stage who)) (own_item own.is_theirs (item.Closes 0 who))
-  close-alone stage who true mine there = rw mine (is.closes stage who mine there)
-  close-alone stage who false mine there =
-      other-item own.given _ _ _ (rw mine refl) ((close-by session stage (LeavesOthers own who stage) who (is.border stage who)).same mine)
+  -- an opening or closing, by whether it is the actor's own
+  border-alone : (stage after : Stage) (who : Actor) (one : OwnItem) (mine : Bool) → own.is_theirs who ≡ mine → LeavesOthers own who stage after
+      → (own.is_theirs who ≡ true → ItemAlone own.given (view own stage) (view own after) (one ∷ []))
+      → ItemAlone own.given (view own stage) (view own after) (if own.is_theirs who then one ∷ [] else [])
+  border-alone stage after who one true mine leaves does = rw mine (does mine)
+  border-alone stage after who one false mine leaves does = other-item own.given _ _ _ (rw mine refl) (leaves.same mine)
 
   item-alone : (stage : Stage) (one : Item) → own.number < length (own.actors stage) → HasLines own.is_theirs one
       → ItemAlone own.given (view own stage) (view own (item_text session stage one)) (own_item own.is_theirs one)
-  item-alone stage (item.Opens number who) there lines = open-alone stage who (own.is_theirs who) refl there
-  item-alone stage (item.Closes number who) there lines = close-alone stage who (own.is_theirs who) refl there
+  item-alone stage (item.Opens number who) there lines = border-alone stage (after_open session stage who) who own_open (own.is_theirs who) refl
+      (open-by session stage (LeavesOthers own who stage) who (is.border stage who)) (λ mine. is.opens stage who mine there)
+  item-alone stage (item.Closes number who) there lines = border-alone stage (after_close session stage who) who own_close (own.is_theirs who) refl
+      (close-by session stage (LeavesOthers own who stage) who (is.border stage who)) (λ mine. is.closes stage who mine there)
   item-alone stage (item.Phase phase) there lines = phase-alone stage phase there lines
 
   items-alone : (stage : Stage) (items : List Item) → own.number < length (own.actors stage) → HaveLines own.is_theirs items

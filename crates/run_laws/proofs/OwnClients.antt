@@ -1,17 +1,16 @@
 -- What a client does where no phase leaves a choice is what it does by itself.
-use Rattle.run_laws.specs.Prelude.{ap, arith, length, List, None, Option, refl, Some, subst, sym, ℕ, [], ◌++◌, ◌<◌, ◌∙◌, ◌∷◌, ◌≡◌, eq-eqb, eqb-true, append-nil}
-use Rattle.run_laws.specs.Prelude.{get_or-set_other, get_or-set_same, length-set, Bool, Err, false, nat_eq, Ok, Result, slice_index_or, true, PcmError, Segment}
-use Rattle.run_laws.specs.Prelude.{PlaybackStream, CaptureStream, Sound, Actor, Item, Line, Op, Answer, Row, first_frame, is_of_card, claim_refusal, Client}
-use Rattle.run_laws.specs.Prelude.{segments_of, card_end, client_kinds, clients_text, is_stopped, items_text, no_sound, phase_text, reader_kinds, readers_text}
-use Rattle.run_laws.specs.Prelude.{reaped_client, reaped_client_if, lab_text, lines_text, Alone, alone_at, alone_by, answers_of, given_client, HaveLines}
-use Rattle.run_laws.specs.Prelude.{IsClientAlone, own_close, own_items, own_open, reaped_by, rows_by, is_client, is_reader, ops_by, after_attach, Lobby, AtPort}
-use Rattle.run_laws.specs.Prelude.{CardEnd, after_close, after_open, attached_client, claimed_client, client_at, close_client, first_stage, no_client}
-use Rattle.run_laws.specs.Prelude.{open_client, open_client_with, Session, Setup, Stage, Border}
-use Rattle.run_laws.proofs.OwnActors.{IsOwn, ItemAlone, LeavesOthers, Own, PhaseOf, closes-own, items-size, not-own, opens-own, other-view, own-alone, view, view_of}
-use Rattle.run_laws.proofs.OwnLines.{EachAt, TextOf, cards-other, constant-at, each-at, each-other, each-size, map-at, map-size, numbered-at, phase-rows, text-each, text-of}
+use Rattle.run_laws.specs.Prelude.{ap, arith, length, List, None, Option, refl, Some, subst, sym, ℕ, [], ◌++◌, ◌<◌, ◌∙◌, ◌∷◌, ◌≡◌, get_or-map, eq-eqb}
+use Rattle.run_laws.specs.Prelude.{nat_tests, append-nil, get_or-set_other, get_or-set_same, length-map, length-set, Bool, Err, false, nat_eq, Ok, Result}
+use Rattle.run_laws.specs.Prelude.{slice_index_or, true, PcmError, Segment, PlaybackStream, Sound, Actor, Item, Line, Op, Row, first_frame, is_of_card}
+use Rattle.run_laws.specs.Prelude.{claim_refusal, Client, segments_of, card_end, client_kinds, clients_text, is_stopped, items_text, no_sound, phase_text}
+use Rattle.run_laws.specs.Prelude.{reader_kinds, readers_text, reaped_client, reaped_client_if, lab_text, lines_text, Alone, alone_at, alone_by, answers_of}
+use Rattle.run_laws.specs.Prelude.{given_client, HaveLines, IsClientAlone, own_close, own_items, own_open, reaped_by, rows_by, is_client, is_reader, ops_by}
+use Rattle.run_laws.specs.Prelude.{after_attach, Lobby, AtPort, CardEnd, after_close, after_open, attached_client, claimed_client, client_at, close_client}
+use Rattle.run_laws.specs.Prelude.{first_stage, no_client, open_client, open_client_with, Session, Setup, Stage, Border}
+use Rattle.run_laws.proofs.Numbered.{numbered-at}
+use Rattle.run_laws.proofs.OwnActors.{IsOwn, ItemAlone, LeavesOthers, Own, PhaseOf, client_row-is, closes-own, reader_row-is, not-own, opens-own, other-view, own-alone, view, view_of}
+use Rattle.run_laws.proofs.OwnLines.{EachAt, TextOf, cards-other, each-at, each-other, each-size, phase-rows, text-each, text-of}
 use Rattle.lab_lines.specs.declared.line.Actor.TheVariants as actor
-use Rattle.lab_run.specs.Client as clients
-use Rattle.lab_run.specs.Reader as readers
 
 -- a client of a session
 abbrev client_own : Session → ℕ → Own Client
@@ -42,9 +41,7 @@ is-own : (n : ℕ) → is_client n (actor.Client n) ≡ true
 is-own n = eq-eqb n n refl
 
 own-number : (n : ℕ) (who : Actor) → is_client n who ≡ true → actor.Client n ≡ who
-own-number n actor.Card is = absurd (cc)
-own-number n (actor.Client m) is = ap actor.Client (sym (eqb-true m n is))
-own-number n (actor.Reader m) is = absurd (cc)
+own-number n who is = grind (arith, nat_tests)
 
 -- a client with its parts
 abbrev client_with : AtPort → Option PlaybackStream → List Segment → AtPort × Client
@@ -87,25 +84,12 @@ reaped-same : (session : Session) (n : ℕ) (stopped : Bool) (x : AtPort × Clie
 reaped-same session n true (a, client) = refl
 reaped-same session n false (a, client) = refl
 
-row-numbered : (n phase m : ℕ) (asked : Op) (own : Option PlaybackStream) (answer : Answer) → is_client n (clients.row_by phase m asked own answer).actor ≡ nat_eq m n
-row-numbered n phase m asked None answer = refl
-row-numbered n phase m asked (Some c) answer = refl
-
-row-op : (phase m : ℕ) (asked : Op) (own : Option PlaybackStream) (answer : Answer) → (clients.row_by phase m asked own answer).op ≡ asked
-row-op phase m asked None answer = refl
-row-op phase m asked (Some c) answer = refl
-
-reader_row-other : (n phase m : ℕ) (asked : Op) (own : Option CaptureStream) (answer : Answer) → is_client n (readers.row_by phase m asked own answer).actor ≡ false
-reader_row-other n phase m asked None answer = refl
-reader_row-other n phase m asked (Some r) answer = refl
-
 phase-own : (session : Session) (n : ℕ) (stage : Stage) (lines : List Line) → n < length stage.clients
     → PhaseOf (client_own session n) stage lines (phase_text session stage lines)
 phase-own session n stage lines there = record {
   rows = phase-rows (is_client n) stage.rows _ (clients_text session stage lines).1 (readers_text session stage lines).1 _ (cards-other (is_client n) refl _ _ (ops_by is_of_card lines))
       ((λ i. (at.rows_are ∙ at.does.1) i ++ none i) ∙ append-nil _);
-  actor = map-at (reaped_client session.ring) (clients_text session stage lines).0 n (no_client session.ring) (no_client session.ring)
-      (rw (each-size _ 0 stage.clients _ _ (text-each (client_kinds session stage) card ops 0 stage.clients)) there)
+  actor = get_or-map (reaped_client session.ring) (clients_text session stage lines).0 n (no_client session.ring)
       ∙ ap (reaped_client session.ring) at.does.0 ∙ reaped-same session n (is_stopped done.0.1.own) done.0;
 }
   where
@@ -120,12 +104,12 @@ phase-own session n stage lines there = record {
 
     at : EachAt (is_client n) n (TextOf (client_kinds session stage) card ops) n stage.clients (clients_text session stage lines).0 (clients_text session stage lines).1 (no_client session.ring)
     at = each-at (is_client n) n (TextOf (client_kinds session stage) card ops)
-        (text-of (is_client n) (λ m. nat_eq m n) (client_kinds session stage) card ops (λ m asked client answer. row-numbered n _ m asked client.own answer))
+        (text-of (is_client n) (λ m. nat_eq m n) (client_kinds session stage) card ops (λ m asked client answer. ap (is_client n) (client_row-is _ m asked client.own answer).0))
         0 n stage.clients _ _ (no_client session.ring) (omega arith) there (text-each (client_kinds session stage) card ops 0 stage.clients)
 
     none : rows_by (is_client n) (readers_text session stage lines).1 ≡ []
     none = each-other (is_client n) (λ m. false) (TextOf (reader_kinds stage) card (λ m. ops_by (is_reader m) lines))
-        (text-of (is_client n) (λ m. false) (reader_kinds stage) card (λ m. ops_by (is_reader m) lines) (λ m asked reader answer. reader_row-other n _ m asked reader.own answer))
+        (text-of (is_client n) (λ m. false) (reader_kinds stage) card (λ m. ops_by (is_reader m) lines) (λ m asked reader answer. ap (is_client n) (reader_row-is _ m asked reader.own answer).0))
         0 stage.readers _ _ (λ m low. refl) (text-each (reader_kinds stage) card (λ m. ops_by (is_reader m) lines) 0 stage.readers)
 
 client-IsOwn : (session : Session) (n : ℕ) → IsOwn session (client_own session n)
@@ -138,9 +122,9 @@ client-IsOwn session n = record {
       subst (λ who. ItemAlone (client_own session n).given (view (client_own session n) stage) (view (client_own session n) (after_close session stage who)) (own_close ∷ [])) (own-number n who mine)
       (close-own session n stage (client_at session stage n).0 (client_at session stage n).1.own (client_at session stage n).1.ended there refl);
   phase = phase-own session n;
-  size = λ stage lines. map-size (reaped_client session.ring) (clients_text session stage lines).0
+  size = λ stage lines. length-map (clients_text session stage lines).0 (reaped_client session.ring)
       ∙ each-size _ 0 stage.clients _ _ (text-each (client_kinds session stage) (card_end session stage lines) (λ m. ops_by (is_client m) lines) 0 stage.clients);
-  row_op = λ phase asked client answer. row-op phase n asked client.own answer;
+  row_op = λ phase asked client answer. (client_row-is phase n asked client.own answer).1;
 }
 
 -- a client's rows and segments are those that it has by itself
@@ -148,17 +132,13 @@ pub client-alone : (session : Session) (capture : Option Sound) (body : List Ite
     → IsClientAlone session body (lab_text session capture body).report n
 client-alone session capture body n there lines = record {
   rows = ap (λ (x : Alone Client). x.rows) alone;
-  segments = numbered-at (λ (client : AtPort × Client). segments_of client.1) n 0 n end.clients (no_client session.ring) (omega arith)
-      (rw (items-size session (client_own session n) (client-IsOwn session n) (first_stage session) body) within)
+  segments = numbered-at (λ (client : AtPort × Client). segments_of client.1) (no_client session.ring) n 0 n end.clients (omega arith) refl
       ∙ ap (λ (x : Alone Client). segments_of x.actor.1) alone;
 }
   where
     end : Stage
     end = items_text session (first_stage session) body
 
-    within : n < length (first_stage session).clients
-    within = rw (map-size _ session.clients) there
-
     alone : view (client_own session n) end
         ≡ alone_by (client_own session n).given (alone_at (first_frame session.card) (no_client session.ring)) (own_items (is_client n) body) (answers_of (rows_by (is_client n) end.rows))
-    alone = own-alone session (client_own session n) (client-IsOwn session n) body within (constant-at (no_client session.ring) session.clients n) lines
+    alone = own-alone session (client_own session n) (client-IsOwn session n) body (rw (length-map session.clients) there) (get_or-map (λ setup. no_client session.ring) session.clients n None) lines

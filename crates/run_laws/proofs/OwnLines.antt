@@ -5,41 +5,41 @@ use Rattle.run_laws.specs.Prelude.{Actor, Card, Op, Answer, Row, played_by, with
 use Rattle.run_laws.specs.Prelude.{is_opening, NoneOpen, rows_by, card_row, card_rows, AtPort, CardEnd, Rules}
 use Rattle.lab_lines.specs.declared.line.Op.TheVariants as op
 
--- one row more, of another actor and of this one
+-- one row before others, of this actor or of another
+row-more : (is_theirs : Actor → Bool) (b : Bool) (row : Row) (rows : List Row) → is_theirs row.actor ≡ b → rows_by is_theirs rows ≡ (if b then rows else [])
+    → rows_by is_theirs (row ∷ rows) ≡ (if b then row ∷ rows else [])
+row-more is_theirs true row rows is rest = rw is (ap (λ r. row ∷ r) rest)
+row-more is_theirs false row rows is rest = rw is rest
+
+rows-none : (b : Bool) → ◌≡◌ {A = List Row} [] (if b then [] else [])
+rows-none true = refl
+rows-none false = refl
+
+-- one row behind others, of another actor and of this one
+row-behind : (is_theirs : Actor → Bool) (b : Bool) (rows : List Row) (row : Row) → is_theirs row.actor ≡ b
+    → rows_by is_theirs (rows ++ row ∷ []) ≡ rows_by is_theirs rows ++ (if b then row ∷ [] else [])
+row-behind is_theirs b rows row is = filter-append _ rows (row ∷ []) ∙ ap (λ r. rows_by is_theirs rows ++ r) (row-more is_theirs b row [] is (rows-none b))
+
 pub other-row : (is_theirs : Actor → Bool) (rows : List Row) (row : Row) → is_theirs row.actor ≡ false → rows_by is_theirs (rows ++ row ∷ []) ≡ rows_by is_theirs rows
-other-row is_theirs rows row is = filter-append _ rows (row ∷ []) ∙ ap (λ r. rows_by is_theirs rows ++ r) (none is) ∙ append-nil (rows_by is_theirs rows)
-  where
-    none : is_theirs row.actor ≡ false → rows_by is_theirs (row ∷ []) ≡ []
-    none e = rw e refl
+other-row is_theirs rows row is = row-behind is_theirs false rows row is ∙ append-nil (rows_by is_theirs rows)
 
 pub own-row : (is_theirs : Actor → Bool) (rows : List Row) (row : Row) → is_theirs row.actor ≡ true → rows_by is_theirs (rows ++ row ∷ []) ≡ rows_by is_theirs rows ++ row ∷ []
-own-row is_theirs rows row is = filter-append _ rows (row ∷ []) ∙ ap (λ r. rows_by is_theirs rows ++ r) (one is)
-  where
-    one : is_theirs row.actor ≡ true → rows_by is_theirs (row ∷ []) ≡ row ∷ []
-    one e = rw e refl
+own-row is_theirs rows row is = row-behind is_theirs true rows row is
 
 -- the rows of an actor's lines are all this actor's, or none
 text-rows : {S : Type 0} (is_theirs : Actor → Bool) (b : Bool) (kind : Kind S) (card : CardEnd) (x : AtPort × S) (ops : List Op)
     → ((asked : Op) (s : S) (answer : Answer) → is_theirs (kind.row asked s answer).actor ≡ b)
     → rows_by is_theirs (lines_text kind card x ops).1 ≡ (if b then (lines_text kind card x ops).1 else [])
-text-rows is_theirs true kind card x [] is = refl
-text-rows is_theirs false kind card x [] is = refl
-text-rows is_theirs true kind card x (asked ∷ more) is =
-    let done = line_text kind card x asked in
-    rw (is asked done.0.1 done.1) (ap (λ rows. kind.row asked done.0.1 done.1 ∷ rows) (text-rows is_theirs true kind card done.0 more is))
-text-rows is_theirs false kind card x (asked ∷ more) is =
-    let done = line_text kind card x asked in
-    rw (is asked done.0.1 done.1) (text-rows is_theirs false kind card done.0 more is)
+text-rows is_theirs b kind card x [] is = rows-none b
+text-rows is_theirs b kind card x (asked ∷ more) is = let done = line_text kind card x asked in
+    row-more is_theirs b (kind.row asked done.0.1 done.1) (lines_text kind card done.0 more).1 (is asked done.0.1 done.1) (text-rows is_theirs b kind card done.0 more is)
 
 may-rows : {S : Type 0} (is_theirs : Actor → Bool) (b : Bool) (kind : Kind S) (rules : Rules) (x y : AtPort × S) (ops : List Op) (rows : List Row)
     → ((asked : Op) (s : S) (answer : Answer) → is_theirs (kind.row asked s answer).actor ≡ b) → LinesMay kind rules x ops y rows
     → rows_by is_theirs rows ≡ (if b then rows else [])
-may-rows is_theirs true kind rules x y [] rows is (same, none) = rw none refl
-may-rows is_theirs false kind rules x y [] rows is (same, none) = rw none refl
-may-rows is_theirs true kind rules x y (asked ∷ ops) rows is (between, answer, others, may, rest, are) =
-    rw are (rw (is asked between.1 answer) (ap (λ r. kind.row asked between.1 answer ∷ r) (may-rows is_theirs true kind rules between y ops others is rest)))
-may-rows is_theirs false kind rules x y (asked ∷ ops) rows is (between, answer, others, may, rest, are) =
-    rw are (rw (is asked between.1 answer) (may-rows is_theirs false kind rules between y ops others is rest))
+may-rows is_theirs b kind rules x y [] rows is (same, none) = rw none (rows-none b)
+may-rows is_theirs b kind rules x y (asked ∷ ops) rows is (between, answer, others, may, rest, are) =
+    rw are (row-more is_theirs b (kind.row asked between.1 answer) others (is asked between.1 answer) (may-rows is_theirs b kind rules between y ops others is rest))
 
 -- ---- the actors of a kind, by what the lines of each do
 
@@ -59,16 +59,7 @@ MayOf kind rules ops n x y rows = LinesMay (kind n) rules x (ops n) y rows
 pub text-each : {S : Type 0} (kind : ℕ → Kind S) (card : CardEnd) (ops : ℕ → List Op) (number : ℕ) (actors : List (AtPort × S))
     → EachBy (TextOf kind card ops) number actors (each_text kind card ops number actors).0 (each_text kind card ops number actors).1
 text-each kind card ops number [] = (refl, refl)
-text-each kind card ops number (x ∷ actors) = (
-  (lines_text (kind number) card x (ops number)).0,
-  (each_text kind card ops (number + 1) actors).0,
-  (lines_text (kind number) card x (ops number)).1,
-  (each_text kind card ops (number + 1) actors).1,
-  (refl, refl),
-  text-each kind card ops (number + 1) actors,
-  refl,
-  refl,
-)
+text-each kind card ops number (x ∷ actors) = (_, _, _, _, (refl, refl), text-each kind card ops (number + 1) actors, refl, refl)
 
 pub may-each : {S : Type 0} (kind : ℕ → Kind S) (rules : Rules) (ops : ℕ → List Op) (number : ℕ) (actors after : List (AtPort × S)) (rows : List Row)
     → EachMay kind rules ops number actors after rows → EachBy (MayOf kind rules ops) number actors after rows
@@ -162,15 +153,6 @@ none-answers kind card x (asked ∷ more) is none =
     let done = line_text kind card x asked in
     rw (ap is_opening (is asked done.0.1 done.1) ∙ none.0) (none-answers kind card done.0 more is none.1)
 
-pub map-at : {A B : Type 0} (f : A → B) (xs : List A) (i : ℕ) (d : A) (e : B) → i < length xs → slice_index_or (map f xs) i e ≡ f (slice_index_or xs i d)
-map-at f [] i d e low = absurd (omega (arith, low))
-map-at f (x ∷ xs) zero d e low = refl
-map-at f (x ∷ xs) (suc i) d e low = map-at f xs i d e (omega (arith, low))
-
-pub map-size : {A B : Type 0} (f : A → B) (xs : List A) → length (map f xs) ≡ length xs
-map-size f [] = refl
-map-size f (x ∷ xs) = ap suc (map-size f xs)
-
 -- the rows of a phase: none of the card's are this actor's, and of those of clients and readers its own
 pub phase-rows : (is_theirs : Actor → Bool) (a cards c d own : List Row) → rows_by is_theirs cards ≡ [] → rows_by is_theirs c ++ rows_by is_theirs d ≡ own
     → rows_by is_theirs (a ++ cards ++ c ++ d) ≡ rows_by is_theirs a ++ own
@@ -187,10 +169,6 @@ members_of {Y = Y} number pairs = map (λ (pair : ℕ × Y). pair.1) (filter (λ
 pub members-append : {Y : Type 0} (n : ℕ) (xs ys : List (ℕ × Y)) → members_of n (xs ++ ys) ≡ members_of n xs ++ members_of n ys
 members-append n xs ys = ap (map (λ pair. pair.1)) (filter-append _ xs ys) ∙ map-append (λ pair. pair.1) (filter _ xs) (filter _ ys)
 
-members-own : {Y : Type 0} (n m : ℕ) (ys : List Y) → nat_eq m n ≡ true → members_of n (map (λ y. (m, y)) ys) ≡ ys
-members-own n m [] is = refl
-members-own n m (y ∷ ys) is = rw is (ap (λ zs. y ∷ zs) (members-own n m ys is))
-
 pub members-other : {Y : Type 0} (n m : ℕ) (ys : List Y) → nat_eq m n ≡ false → members_of n (map (λ y. (m, y)) ys) ≡ []
 members-other n m [] is = refl
 members-other n m (y ∷ ys) is = rw is (members-other n m ys is)
@@ -201,22 +179,3 @@ numbered-past of n number (x ∷ xs) low =
     members-append n (map (λ y. (number, y)) (of x)) (with_numbers of (number + 1) xs)
     ∙ ap (λ r. r ++ members_of n (with_numbers of (number + 1) xs)) (members-other n number (of x) (grind (arith, nat_tests)))
     ∙ ap (λ r. [] ++ r) (numbered-past of n (number + 1) xs (omega arith))
-
-pub numbered-at : {X Y : Type 0} (of : X → List Y) (n number i : ℕ) (xs : List X) (d : X) → number + i ≡ n → i < length xs
-    → members_of n (with_numbers of number xs) ≡ of (slice_index_or xs i d)
-numbered-at of n number i [] d at low = absurd (omega (arith, low))
-numbered-at of n number zero (x ∷ xs) d at low =
-    members-append n (map (λ y. (number, y)) (of x)) (with_numbers of (number + 1) xs)
-    ∙ ap (λ r. members_of n (map (λ y. (number, y)) (of x)) ++ r) (numbered-past of n (number + 1) xs (omega (arith, at)))
-    ∙ append-nil (members_of n (map (λ y. (number, y)) (of x)))
-    ∙ members-own n number (of x) (grind (arith, nat_tests))
-numbered-at of n number (suc i) (x ∷ xs) d at low =
-    members-append n (map (λ y. (number, y)) (of x)) (with_numbers of (number + 1) xs)
-    ∙ ap (λ r. r ++ members_of n (with_numbers of (number + 1) xs)) (members-other n number (of x) (grind (arith, nat_tests)))
-    ∙ numbered-at of n (number + 1) i xs d (omega (arith, at)) (omega (arith, low))
-
--- a list with one member alone, over and over
-pub constant-at : {X Y : Type 0} (y : Y) (xs : List X) (n : ℕ) → slice_index_or (map (λ x. y) xs) n y ≡ y
-constant-at y [] n = refl
-constant-at y (x ∷ xs) zero = refl
-constant-at y (x ∷ xs) (suc n) = constant-at y xs n

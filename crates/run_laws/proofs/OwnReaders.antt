@@ -1,16 +1,15 @@
 -- What a reader does where no phase leaves a choice is what it does by itself.
-use Rattle.run_laws.specs.Prelude.{ap, arith, length, List, None, Option, refl, Some, subst, sym, ℕ, [], ◌++◌, ◌<◌, ◌∙◌, ◌∷◌, ◌≡◌, eq-eqb, eqb-true}
-use Rattle.run_laws.specs.Prelude.{get_or-set_other, get_or-set_same, length-set, Bool, false, map, nat_eq, slice_index_or, true, PlaybackStream, CaptureStream}
-use Rattle.run_laws.specs.Prelude.{Sound, Actor, Item, Line, Op, Answer, Row, first_frame, is_of_card, card_end, client_kinds, clients_text, is_reader_stopped}
-use Rattle.run_laws.specs.Prelude.{items_text, phase_text, reader_kinds, readers_text, reaped_reader, reaped_reader_if, lab_text, runs_of, with_numbers}
-use Rattle.run_laws.specs.Prelude.{lines_text, Alone, alone_at, alone_by, answers_of, given_reader, HaveLines, IsReaderAlone, own_close, own_items, own_open}
-use Rattle.run_laws.specs.Prelude.{reaped_by, rows_by, runs_by, is_client, is_reader, ops_by, Reader, AtPort, CardEnd, after_close, after_open, close_reader}
-use Rattle.run_laws.specs.Prelude.{first_stage, no_reader, open_reader, open_reader_with, reader_at, Session, Setup, Stage, Border}
-use Rattle.run_laws.proofs.OwnActors.{IsOwn, ItemAlone, LeavesOthers, Own, PhaseOf, closes-own, items-size, not-own, opens-own, other-view, own-alone, view, view_of}
-use Rattle.run_laws.proofs.OwnLines.{EachAt, TextOf, cards-other, constant-at, each-at, each-other, each-size, map-at, map-size, members_of, numbered-at, phase-rows, text-each, text-of}
+use Rattle.run_laws.specs.Prelude.{ap, arith, length, List, None, Option, refl, Some, subst, sym, ℕ, [], ◌++◌, ◌<◌, ◌∙◌, ◌∷◌, ◌≡◌, get_or-map, eq-eqb}
+use Rattle.run_laws.specs.Prelude.{nat_tests, get_or-set_other, get_or-set_same, length-map, length-set, Bool, false, map, nat_eq, slice_index_or, true}
+use Rattle.run_laws.specs.Prelude.{CaptureStream, Sound, Actor, Item, Line, Op, Row, first_frame, is_of_card, card_end, client_kinds, clients_text}
+use Rattle.run_laws.specs.Prelude.{is_reader_stopped, items_text, phase_text, reader_kinds, readers_text, reaped_reader, reaped_reader_if, lab_text, runs_of}
+use Rattle.run_laws.specs.Prelude.{with_numbers, lines_text, Alone, alone_at, alone_by, answers_of, given_reader, HaveLines, IsReaderAlone, own_close}
+use Rattle.run_laws.specs.Prelude.{own_items, own_open, reaped_by, rows_by, runs_by, is_client, is_reader, ops_by, Reader, AtPort, CardEnd, after_close}
+use Rattle.run_laws.specs.Prelude.{after_open, close_reader, first_stage, no_reader, open_reader, open_reader_with, reader_at, Session, Setup, Stage, Border}
+use Rattle.run_laws.proofs.Numbered.{numbered-at}
+use Rattle.run_laws.proofs.OwnActors.{IsOwn, ItemAlone, LeavesOthers, Own, PhaseOf, client_row-is, closes-own, reader_row-is, not-own, opens-own, other-view, own-alone, view, view_of}
+use Rattle.run_laws.proofs.OwnLines.{EachAt, TextOf, cards-other, each-at, each-other, each-size, members_of, phase-rows, text-each, text-of}
 use Rattle.lab_lines.specs.declared.line.Actor.TheVariants as actor
-use Rattle.lab_run.specs.Client as clients
-use Rattle.lab_run.specs.Reader as readers
 
 -- a reader of a session
 abbrev pub reader_own : Session → ℕ → Own Reader
@@ -41,9 +40,7 @@ pub is-own : (n : ℕ) → is_reader n (actor.Reader n) ≡ true
 is-own n = eq-eqb n n refl
 
 pub own-number : (n : ℕ) (who : Actor) → is_reader n who ≡ true → actor.Reader n ≡ who
-own-number n actor.Card is = absurd (cc)
-own-number n (actor.Client m) is = absurd (cc)
-own-number n (actor.Reader m) is = ap actor.Reader (sym (eqb-true m n is))
+own-number n who is = grind (arith, nat_tests)
 
 -- a reader with its parts
 abbrev pub reader_with : AtPort → Option CaptureStream → List ℕ → AtPort × Reader
@@ -75,25 +72,12 @@ reaped-same : (session : Session) (n : ℕ) (stopped : Bool) (x : AtPort × Read
 reaped-same session n true (a, reader) = refl
 reaped-same session n false (a, reader) = refl
 
-pub row-numbered : (n phase m : ℕ) (asked : Op) (own : Option CaptureStream) (answer : Answer) → is_reader n (readers.row_by phase m asked own answer).actor ≡ nat_eq m n
-row-numbered n phase m asked None answer = refl
-row-numbered n phase m asked (Some r) answer = refl
-
-row-op : (phase m : ℕ) (asked : Op) (own : Option CaptureStream) (answer : Answer) → (readers.row_by phase m asked own answer).op ≡ asked
-row-op phase m asked None answer = refl
-row-op phase m asked (Some r) answer = refl
-
-pub client_row-other : (n phase m : ℕ) (asked : Op) (own : Option PlaybackStream) (answer : Answer) → is_reader n (clients.row_by phase m asked own answer).actor ≡ false
-client_row-other n phase m asked None answer = refl
-client_row-other n phase m asked (Some c) answer = refl
-
 phase-own : (session : Session) (n : ℕ) (stage : Stage) (lines : List Line) → n < length stage.readers
     → PhaseOf (reader_own session n) stage lines (phase_text session stage lines)
 phase-own session n stage lines there = record {
   rows = phase-rows (is_reader n) stage.rows _ (clients_text session stage lines).1 (readers_text session stage lines).1 _ (cards-other (is_reader n) refl _ _ (ops_by is_of_card lines))
       (λ i. none i ++ (at.rows_are ∙ at.does.1) i);
-  actor = map-at (reaped_reader session.ring) (readers_text session stage lines).0 n (no_reader session.ring) (no_reader session.ring)
-      (rw (each-size _ 0 stage.readers _ _ (text-each (reader_kinds stage) card ops 0 stage.readers)) there)
+  actor = get_or-map (reaped_reader session.ring) (readers_text session stage lines).0 n (no_reader session.ring)
       ∙ ap (reaped_reader session.ring) at.does.0 ∙ reaped-same session n (is_reader_stopped done.0.1.own) done.0;
 }
   where
@@ -108,12 +92,12 @@ phase-own session n stage lines there = record {
 
     at : EachAt (is_reader n) n (TextOf (reader_kinds stage) card ops) n stage.readers (readers_text session stage lines).0 (readers_text session stage lines).1 (no_reader session.ring)
     at = each-at (is_reader n) n (TextOf (reader_kinds stage) card ops)
-        (text-of (is_reader n) (λ m. nat_eq m n) (reader_kinds stage) card ops (λ m asked reader answer. row-numbered n _ m asked reader.own answer))
+        (text-of (is_reader n) (λ m. nat_eq m n) (reader_kinds stage) card ops (λ m asked reader answer. ap (is_reader n) (reader_row-is _ m asked reader.own answer).0))
         0 n stage.readers _ _ (no_reader session.ring) (omega arith) there (text-each (reader_kinds stage) card ops 0 stage.readers)
 
     none : rows_by (is_reader n) (clients_text session stage lines).1 ≡ []
     none = each-other (is_reader n) (λ m. false) (TextOf (client_kinds session stage) card (λ m. ops_by (is_client m) lines))
-        (text-of (is_reader n) (λ m. false) (client_kinds session stage) card (λ m. ops_by (is_client m) lines) (λ m asked client answer. client_row-other n _ m asked client.own answer))
+        (text-of (is_reader n) (λ m. false) (client_kinds session stage) card (λ m. ops_by (is_client m) lines) (λ m asked client answer. ap (is_reader n) (client_row-is _ m asked client.own answer).0))
         0 stage.clients _ _ (λ m low. refl) (text-each (client_kinds session stage) card (λ m. ops_by (is_client m) lines) 0 stage.clients)
 
 reader-IsOwn : (session : Session) (n : ℕ) → IsOwn session (reader_own session n)
@@ -126,9 +110,9 @@ reader-IsOwn session n = record {
       subst (λ who. ItemAlone (reader_own session n).given (view (reader_own session n) stage) (view (reader_own session n) (after_close session stage who)) (own_close ∷ [])) (own-number n who mine)
       (close-own session n stage (reader_at session stage n).0 (reader_at session stage n).1.own (reader_at session stage n).1.frames there refl);
   phase = phase-own session n;
-  size = λ stage lines. map-size (reaped_reader session.ring) (readers_text session stage lines).0
+  size = λ stage lines. length-map (readers_text session stage lines).0 (reaped_reader session.ring)
       ∙ each-size _ 0 stage.readers _ _ (text-each (reader_kinds stage) (card_end session stage lines) (λ m. ops_by (is_reader m) lines) 0 stage.readers);
-  row_op = λ phase asked reader answer. row-op phase n asked reader.own answer;
+  row_op = λ phase asked reader answer. (reader_row-is phase n asked reader.own answer).1;
 }
 
 -- the runs of a number are the members of that number
@@ -149,17 +133,13 @@ pub reader-alone : (session : Session) (capture : Option Sound) (body : List Ite
 reader-alone session capture body n there lines = record {
   rows = ap (λ (x : Alone Reader). x.rows) alone;
   runs = runs-members n (with_numbers (λ (reader : AtPort × Reader). runs_of reader.1.frames) 0 end.readers)
-      ∙ numbered-at (λ (reader : AtPort × Reader). runs_of reader.1.frames) n 0 n end.readers (no_reader session.ring) (omega arith)
-      (rw (items-size session (reader_own session n) (reader-IsOwn session n) (first_stage session) body) within)
+      ∙ numbered-at (λ (reader : AtPort × Reader). runs_of reader.1.frames) (no_reader session.ring) n 0 n end.readers (omega arith) refl
       ∙ ap (λ (x : Alone Reader). runs_of x.actor.1.frames) alone;
 }
   where
     end : Stage
     end = items_text session (first_stage session) body
 
-    within : n < length (first_stage session).readers
-    within = rw (map-size _ session.readers) there
-
     alone : view (reader_own session n) end
         ≡ alone_by (reader_own session n).given (alone_at (first_frame session.card) (no_reader session.ring)) (own_items (is_reader n) body) (answers_of (rows_by (is_reader n) end.rows))
-    alone = own-alone session (reader_own session n) (reader-IsOwn session n) body within (constant-at (no_reader session.ring) session.readers n) lines
+    alone = own-alone session (reader_own session n) (reader-IsOwn session n) body (rw (length-map session.readers) there) (get_or-map (λ setup. no_reader session.ring) session.readers n None) lines

@@ -1,13 +1,14 @@
 -- What the steps of a course may change: no sample below a position p, where each position that it loads is at p or past it.
 --     From, Keeps      a course's results have a fact, as far as its steps keep to p; of Keeps it loads nothing
---     CommitEnd, RewindEnd      what a commit, and a rewind, leave: nothing is changed below p
+--     CommitEnd, RewindEnd      what a commit placed, and a rewind left, of so many frames by clients of so many channels: nothing is changed below p
 use Rattle.run_laws.specs.Prelude.{ap, arith, inl, inr, length, List, None, Option, refl, Some, subst, sym, ℕ, [], ◌+◌, ◌<◌, ◌∙◌, ◌∷◌, ◌≡◌, ◌≤◌, ◌⊎◌, nat_tests}
-use Rattle.run_laws.specs.Prelude.{Bool, Contains, false, if◌then◌else◌, nat_eq, suc, true, zero, ℤ, rising, Marks, Ended, Position, OnWhole, Got, Course, ends}
-use Rattle.run_laws.specs.Prelude.{gets, lays, loads, ◌>>=◌, Commit, PlaybackStream, Answered, commits, go_on, lay_each, lay_frame, lay_frames, looks, nothing}
-use Rattle.run_laws.specs.Prelude.{one_frame_more, one_more, back_on, rewind_left, take_each, take_frames, ring_sample, Sound, Op, Answer, after_call, begins}
-use Rattle.run_laws.specs.Prelude.{call_of, Client, client_kind, line_by, line_if, LineMay, AtPort, May, Rules, with_asks, IsSaying}
-use Rattle.run_laws.proofs.Onward.{Channels, channels-rise}
-use Rattle.run_laws.proofs.RunGoesOn.{stop-seen}
+use Rattle.run_laws.specs.Prelude.{Bool, Contains, false, suc, true, zero, ℤ, ⊤, rising, Marks, Ended, Position, Got, Course, ends, gets, lays, loads, ◌>>=◌}
+use Rattle.run_laws.specs.Prelude.{Gives, Commit, PlaybackStream, Answered, commits, go_on, lay_each, lay_frame, lay_frames, looks, nothing, one_frame_more}
+use Rattle.run_laws.specs.Prelude.{one_more, back_on, rewind_left, take_each, take_frames, ring_sample, Sound, Op, Answer, after_call, begins, call_of, Client}
+use Rattle.run_laws.specs.Prelude.{client_kind, line_by, line_if, LineMay, AtPort, May, MayLay, Rules, IsSaying}
+use Rattle.run_laws.proofs.Onward.{Channels, begun, begun-most, channels-rise}
+use Rattle.run_laws.proofs.RunGoesOn.{get-seen, lay-seen, stop-seen}
+use Rattle.run_laws.proofs.Withdrawn.{ByEnd}
 use Rattle.mix_core.specs.declared.port.Ended.TheVariants as ended
 use Rattle.snoop_core.specs.declared.port.Got.TheVariants as got
 use Rattle.lab_lines.specs.declared.line.Op.TheVariants as op
@@ -69,6 +70,18 @@ Keeps-then p s R Q c f keeps each = From-then p (λ t x. (t ≡ s) × R x) (λ t
 pub Keeps-map : {X : Type 0} (p s : ℕ) (R Q : X → Type 0) (c : Course X) → Keeps p s R c → ((x : X) → R x → Q x) → Keeps p s Q c
 Keeps-map p s R Q c keeps each = From-map p (λ t x. (t ≡ s) × R x) (λ t x. (t ≡ s) × Q x) s c keeps (λ t x is. (is.0, each x is.1))
 
+-- a fact of each result, where no position is too early
+pub From-gives : {X : Type 0} (R : ℕ → X → Type 0) (Q : X → Type 0) (c : Course X) → From 0 R 0 c → ((t : ℕ) (x : X) → R t x → Q x) → Gives Q c
+From-gives R Q (ends x) from each = each 0 x from
+From-gives R Q (loads next) from each =
+    λ load. elim load as (λ k. Gives Q (next k)) [ None ↦ From-gives R Q (next None) from.0 each | Some position ↦ From-gives R Q (next (Some position)) (from.1 position (omega arith)) each ]
+From-gives R Q (lays e next) from each = λ how. elim how as (λ k. Gives Q (next k)) [
+  | ended.Whole ↦ From-gives R Q (next ended.Whole) (from.0 (omega arith)) each
+  | ended.Late word ↦ From-gives R Q (next (ended.Late word)) (from.1 word) each
+  | ended.Stopped ↦ From-gives R Q (next ended.Stopped) from.2 each
+]
+From-gives R Q (gets frame next) from each = λ got. From-gives R Q (next got) (from got) each
+
 -- ---- a course that is taken
 
 module _ (rules : Rules) (p : ℕ) (least : (q : ℕ) → Contains rules.published q → p ≤ q) where
@@ -80,164 +93,142 @@ module _ (rules : Rules) (p : ℕ) (least : (q : ℕ) → Contains rules.publish
   Takes-from Q s a b (loads next) x from seen (Some position, m, step, rest) =
       Takes-from Q p m b (next (Some position)) x (from.1 position (least position.frame step.1))
       (subst (λ n. p ≤ n) (sym (ap (λ (k : AtPort). k.seen) step.4)) (least position.frame step.1)) rest
-  Takes-from Q s a b (lays e next) x from seen (ended.Whole, m, step, rest) =
-      Takes-from Q s m b (next ended.Whole) x (from.0 (through s a.seen e.frame seen step.0)) (subst (λ n. s ≤ n) (sym (ap (λ (k : AtPort). k.seen) step.2)) seen) rest
+  Takes-from Q s a b (lays e next) x from seen (how, m, step, rest) =
+      Takes-from Q s m b (next how) x (by_how how from step) (rw (lay-seen rules a m e how step) seen) rest
     where
-      through : (x y z : ℕ) → x ≤ y → y ≤ z → x ≤ z
-      through x y z one two = omega (arith, one, two)
-  Takes-from Q s a b (lays e next) x from seen (ended.Late word, m, step, rest) =
-      Takes-from Q s m b (next (ended.Late word)) x (from.1 word) (subst (λ n. s ≤ n) (sym (ap (λ (k : AtPort). k.seen) step.5)) seen) rest
-  Takes-from Q s a b (lays e next) x from seen (ended.Stopped, m, inl step, rest) =
-      Takes-from Q s m b (next ended.Stopped) x from.2
-      (subst (λ n. s ≤ n) (sym (ap (λ (k : AtPort). k.seen) step.3 ∙ stop-seen (with_asks step.0 a))) seen) rest
-  Takes-from Q s a b (lays e next) x from seen (ended.Stopped, m, inr step, rest) =
-      Takes-from Q s m b (next ended.Stopped) x from.2 (subst (λ n. s ≤ n) (sym (ap (λ (k : AtPort). k.seen) step.2)) seen) rest
-  Takes-from Q s a b (gets frame next) x from seen (got.Whole, m, step, rest) =
-      Takes-from Q s m b (next got.Whole) x (from got.Whole) (subst (λ n. s ≤ n) (sym (ap (λ (k : AtPort). k.seen) step.2)) seen) rest
-  Takes-from Q s a b (gets frame next) x from seen (got.Overtaken channel word, m, step, rest) =
-      Takes-from Q s m b (next (got.Overtaken channel word)) x (from (got.Overtaken channel word)) (subst (λ n. s ≤ n) (sym (ap (λ (k : AtPort). k.seen) step.5)) seen) rest
-  Takes-from Q s a b (gets frame next) x from seen (got.Stopped, m, step, rest) =
-      Takes-from Q s m b (next got.Stopped) x (from got.Stopped)
-      (subst (λ n. s ≤ n) (sym (ap (λ (k : AtPort). k.seen) step.4 ∙ stop-seen (with_asks step.0 a))) seen) rest
+      by_how : (how : Ended) → From p (λ t y. Q y) s (lays e next) → MayLay rules a e how m → From p (λ t y. Q y) s (next how)
+      by_how how from step = grind (arith, nat_tests)
+  Takes-from Q s a b (gets frame next) x from seen (how, m, step, rest) = Takes-from Q s m b (next how) x (from how) (rw (get-seen rules a m frame how step) seen) rest
 
 -- ---- a commit
 
--- a commit that begins at a frame placed nothing, or that frame is not below s; and it has no part of a frame where it is whole
-abbrev pub CommitEnd : ℕ → ℕ → Commit → Type 0
-CommitEnd frame s commit = (((commit.frames ≡ 0) × (commit.part ≡ 0)) ⊎ (s ≤ frame)) × OnWhole commit.ended (commit.part ≡ 0)
+-- what a commit placed, or a rewind left, of so many frames: no more of them, where a frame that is begun counts as one; and of that frame none where all
+-- was done, and else less than all channels
+pub record IsCommitOf (count channels : ℕ) (commit : Commit) : Type 0 where
+  pub few : commit.frames + begun commit.part ≤ count
+  pub ends : ByEnd commit.ended (commit.part ≡ 0) (commit.part < channels)
+
+-- of no frames
+pub nothing-of : (count channels : ℕ) → IsCommitOf count channels (record { frames = 0; part = 0; ended = ended.Whole })
+nothing-of count channels = record { few = omega arith; ends = refl }
+
+pub part-below : (channels : ℕ) (x : Commit) → 0 < channels → ByEnd x.ended (x.part ≡ 0) (x.part < channels) → x.part < channels
+part-below channels x some = grind (arith, nat_tests)
+
+-- a commit that begins at a frame placed nothing, or that frame is not below s
+abbrev pub CommitEnd : ℕ → ℕ → ℕ → ℕ → Commit → Type 0
+CommitEnd count channels frame s commit = IsCommitOf count channels commit × (((commit.frames ≡ 0) × (commit.part ≡ 0)) ⊎ (s ≤ frame))
+
+-- where a rewind that begins at a frame took something back, what is left ends at no frame below s; and where it ended before, something is left
+abbrev pub RewindEnd : ℕ → ℕ → ℕ → ℕ → Commit → Type 0
+RewindEnd count channels frame s left = IsCommitOf count channels left × (((left.frames ≡ count) × (left.part ≡ 0)) ⊎ (s ≤ frame + left.frames))
+    × ByEnd left.ended ⊤ (0 < left.frames + left.part)
 
 module _ (p s : ℕ) where
-  -- once a sample of a frame is placed
-  each-keeps : (member frame : ℕ) (bindings : List ℕ) (sample_of : ℕ → ℤ) (qs : List ℕ) → s ≤ frame
-      → Keeps p s (λ (end : ℕ × Ended). s ≤ frame) (lay_each member frame bindings sample_of qs)
+  -- how many of n samples of a frame were placed, where the frame is not below s if one was
+  abbrev FrameEnd : ℕ → ℕ → ℕ × Ended → Type 0
+  FrameEnd frame n (done, ended.Whole) = s ≤ frame
+  FrameEnd frame n (done, ended.Late word) = (done < n) × ((done ≡ 0) ⊎ (s ≤ frame))
+  FrameEnd frame n (done, ended.Stopped) = (done < n) × ((done ≡ 0) ⊎ (s ≤ frame))
+
+  each-keeps : (member frame : ℕ) (bindings : List ℕ) (sample_of : ℕ → ℤ) (qs : List ℕ) → (length qs ≡ 0 → s ≤ frame)
+      → Keeps p s (FrameEnd frame (length qs)) (lay_each member frame bindings sample_of qs)
   unfolding lay_each
-  each-keeps member frame bindings sample_of [] past = (refl, past)
+  each-keeps member frame bindings sample_of [] past = (refl, past refl)
   each-keeps member frame bindings sample_of (q ∷ qs) past = (
-    λ again. Keeps-then p s (λ (end : ℕ × Ended). s ≤ frame) (λ (end : ℕ × Ended). s ≤ frame) (lay_each member frame bindings sample_of qs) (λ end. ends (one_more end))
-        (each-keeps member frame bindings sample_of qs past) (λ end is. (refl, is)),
-    λ word. (refl, past),
-    (refl, past),
-  )
-
-  -- how many samples of a frame were placed
-  abbrev FrameEnd : ℕ → ℕ × Ended → Type 0
-  FrameEnd frame (done, end) = ((done ≡ 0) ⊎ (s ≤ frame)) × OnWhole end (s ≤ frame)
-
-  on_end : (frame : ℕ) (end : Ended) → s ≤ frame → OnWhole end (s ≤ frame)
-  on_end frame ended.Whole past = past
-  on_end frame (ended.Late word) past = tt
-  on_end frame ended.Stopped past = tt
-
-  frame-keeps : (member frame : ℕ) (bindings : List ℕ) (sample_of : ℕ → ℤ) (qs : List ℕ) → 0 < length qs
-      → Keeps p s (FrameEnd frame) (lay_each member frame bindings sample_of qs)
-  unfolding lay_each
-  frame-keeps member frame bindings sample_of [] some = absurd (omega (arith, some))
-  frame-keeps member frame bindings sample_of (q ∷ qs) some = (
-    λ past. Keeps-then p s (λ (end : ℕ × Ended). s ≤ frame) (FrameEnd frame) (lay_each member frame bindings sample_of qs) (λ end. ends (one_more end))
-        (each-keeps member frame bindings sample_of qs past) (λ end is. (refl, one end is)),
-    λ word. (refl, (inl refl, tt)),
-    (refl, (inl refl, tt)),
+    λ here. Keeps-then p s (FrameEnd frame (length qs)) (FrameEnd frame (suc (length qs))) (lay_each member frame bindings sample_of qs) (λ end. ends (one_more end))
+        (each-keeps member frame bindings sample_of qs (λ none. here)) (λ end is. (refl, one here end is)),
+    λ word. (refl, (omega arith, inl refl)),
+    (refl, (omega arith, inl refl)),
   )
     where
-      one : (end : ℕ × Ended) → s ≤ frame → FrameEnd frame (one_more end)
-      one (done, end) past = (inr past, on_end frame end past)
+      one : s ≤ frame → (end : ℕ × Ended) → FrameEnd frame (length qs) end → FrameEnd frame (suc (length qs)) (one_more end)
+      one here end is = grind (arith, nat_tests)
 
-  pub frames-keep : (member card : ℕ) (bindings : List ℕ) (samples : ℕ → ℕ → ℤ) (count first : ℕ) → 0 < length (rising bindings)
-      → Keeps p s (CommitEnd (card + first) s) (lay_frames member card bindings samples count first)
+  pub frames-keep : (member card : ℕ) (bindings : List ℕ) (samples : ℕ → ℕ → ℤ) (count first : ℕ) → (length (rising bindings) ≡ 0 → s ≤ card)
+      → Keeps p s (CommitEnd count (length (rising bindings)) (card + first) s) (lay_frames member card bindings samples count first)
   unfolding lay_frames
-  frames-keep member card bindings samples zero first some = (refl, (inl (refl, refl), refl))
-  frames-keep member card bindings samples (suc count) first some =
-      Keeps-then p s (FrameEnd (card + first)) (CommitEnd (card + first) s) (lay_frame member (card + first) bindings (samples first))
-      (λ end. go_on end (lay_frames member card bindings samples count (first + 1)))
-      (frame-keeps member (card + first) bindings (samples first) (rising bindings) some) (on (frames-keep member card bindings samples count (first + 1) some))
+  frames-keep member card bindings samples zero first low = (refl, (nothing-of 0 (length (rising bindings)), inl (refl, refl)))
+  frames-keep member card bindings samples (suc count) first low =
+      Keeps-then p s (FrameEnd (card + first) (length (rising bindings))) (CommitEnd (suc count) (length (rising bindings)) (card + first) s)
+      (lay_frame member (card + first) bindings (samples first)) (λ end. go_on end (lay_frames member card bindings samples count (first + 1)))
+      (each-keeps member (card + first) bindings (samples first) (rising bindings) (λ none. let past = low none in omega (arith, past)))
+      (on (frames-keep member card bindings samples count (first + 1) low))
     where
-      kept : (done : ℕ) → (done ≡ 0) ⊎ (s ≤ card + first) → ((zero ≡ zero) × (done ≡ 0)) ⊎ (s ≤ card + first)
-      kept done (inl none) = inl (refl, none)
-      kept done (inr past) = inr past
+      -- the frame that wasn't placed whole
+      last : (done : ℕ) (end : Ended) → ByEnd end (done ≡ 0) (done < length (rising bindings)) → (done ≡ 0) ⊎ (s ≤ card + first)
+          → CommitEnd (suc count) (length (rising bindings)) (card + first) s (record { frames = 0; part = done; ended = end })
+      last done end few (inl none) = (record { few = omega (arith, begun-most done); ends = few }, inl (refl, none))
+      last done end few (inr past) = (record { few = omega (arith, begun-most done); ends = few }, inr past)
 
-      on : Keeps p s (CommitEnd (card + (first + 1)) s) (lay_frames member card bindings samples count (first + 1)) → (end : ℕ × Ended) → FrameEnd (card + first) end
-          → Keeps p s (CommitEnd (card + first) s) (go_on end (lay_frames member card bindings samples count (first + 1)))
-      on rest (done, ended.Whole) (any, past) = Keeps-then p s (CommitEnd (card + (first + 1)) s) (CommitEnd (card + first) s)
-          (lay_frames member card bindings samples count (first + 1)) (λ commit. ends (one_frame_more commit))
-          rest (λ commit is. (refl, (inr past, is.1)))
-      on rest (done, ended.Late word) (any, past) = (refl, (kept done any, tt))
-      on rest (done, ended.Stopped) (any, past) = (refl, (kept done any, tt))
+      more : (commit : Commit) → IsCommitOf count (length (rising bindings)) commit → IsCommitOf (suc count) (length (rising bindings)) (one_frame_more commit)
+      more commit is = let few = is.few in record { few = omega (arith, few); ends = is.ends }
+
+      on : Keeps p s (CommitEnd count (length (rising bindings)) (card + (first + 1)) s) (lay_frames member card bindings samples count (first + 1))
+          → (end : ℕ × Ended) → FrameEnd (card + first) (length (rising bindings)) end
+          → Keeps p s (CommitEnd (suc count) (length (rising bindings)) (card + first) s) (go_on end (lay_frames member card bindings samples count (first + 1)))
+      on rest (done, ended.Whole) here = Keeps-then p s (CommitEnd count (length (rising bindings)) (card + (first + 1)) s)
+          (CommitEnd (suc count) (length (rising bindings)) (card + first) s) (lay_frames member card bindings samples count (first + 1))
+          (λ commit. ends (one_frame_more commit)) rest (λ commit is. (refl, (more commit is.0, inr here)))
+      on rest (done, ended.Late word) (few, any) = (refl, last done (ended.Late word) few any)
+      on rest (done, ended.Stopped) (few, any) = (refl, last done ended.Stopped few any)
 
   -- the commit of a client
   pub commits-keep : (c : PlaybackStream) (ring : List ℤ) (count : ℕ) → Channels c.setup.bindings
-      → Keeps p s (CommitEnd (c.stretch.card + c.stretch.committed) s) (commits c ring count)
-  commits-keep c ring count bound =
-      frames-keep c.identity.member c.stretch.card c.setup.bindings (ring_sample c ring) count c.stretch.committed (channels-rise c.setup.bindings bound)
+      → Keeps p s (CommitEnd count (length c.setup.bindings) (c.stretch.card + c.stretch.committed) s) (commits c ring count)
+  commits-keep c ring count bound = subst (λ (n : ℕ). Keeps p s (CommitEnd count n (c.stretch.card + c.stretch.committed) s) (commits c ring count)) bound.whole
+      (frames-keep c.identity.member c.stretch.card c.setup.bindings (ring_sample c ring) count c.stretch.committed
+      (λ none. absurd (omega (arith, none, channels-rise c.setup.bindings bound))))
 
--- ---- a rewind
+  -- ---- a rewind
 
--- of n frames from a first one on, at a frame of the card, these are left: all of them, or what is left ends at no frame below s; there are no more of
--- them than n; and they have no part of a frame where all that was to be taken back was
-pub record RewindEnd (frame n s : ℕ) (left : Commit) : Type 0 where
-  pub kept : ((left.frames ≡ n) × (left.part ≡ 0)) ⊎ (s ≤ frame + left.frames)
-  pub few : left.frames ≤ n
-  pub whole : OnWhole left.ended (left.part ≡ 0)
-
-module _ (p s : ℕ) where
-  -- how many samples of a frame are left
+  -- how many samples of a frame are left of n: all, or the frame is not below s; and some where it ended before
   abbrev FrameLeft : ℕ → ℕ → ℕ × Ended → Type 0
-  FrameLeft frame n (left, end) = ((left ≡ n) ⊎ (s ≤ frame)) × OnWhole end (left ≡ 0)
+  FrameLeft frame n (left, end) = (left ≤ n) × ByEnd end (left ≡ 0) (0 < left) × ((left ≡ n) ⊎ (s ≤ frame))
 
   each-back : (member frame : ℕ) (bindings : List ℕ) (sample_of : ℕ → ℤ) (n : ℕ) → Keeps p s (FrameLeft frame n) (take_each member frame bindings sample_of n)
   unfolding take_each
-  each-back member frame bindings sample_of zero = (refl, (inl refl, refl))
+  each-back member frame bindings sample_of zero = (refl, (omega arith, refl, inl refl))
   each-back member frame bindings sample_of (suc n) = (
-    λ past. Keeps-map p s (FrameLeft frame n) (FrameLeft frame (suc n)) (take_each member frame bindings sample_of n) (each-back member frame bindings sample_of n) (less past),
-    λ word. (refl, (inl refl, tt)),
-    (refl, (inl refl, tt)),
+    λ past. Keeps-map p s (FrameLeft frame n) (FrameLeft frame (suc n)) (take_each member frame bindings sample_of n) (each-back member frame bindings sample_of n)
+        (λ end is. let few = is.0 in (omega (arith, few), is.1, inr past)),
+    λ word. (refl, (omega arith, omega arith, inl refl)),
+    (refl, (omega arith, omega arith, inl refl)),
   )
-    where
-      less : s ≤ frame → (end : ℕ × Ended) → FrameLeft frame n end → FrameLeft frame (suc n) end
-      less past (left, end) is = (inr past, is.1)
 
-  module _ (member card : ℕ) (bindings : List ℕ) (some : 0 < length bindings) where
-    left-end : (first n left : ℕ) (end : Ended) → (left ≡ length bindings) ⊎ (s ≤ card + (first + n)) → OnWhole end ⊥
-        → RewindEnd (card + first) (suc n) s (rewind_left n left (length bindings) end)
-    left-end first n left end any over = by_test (nat_eq left (length bindings)) refl any
-      where
-        on : (e : Ended) (x : ℕ) → OnWhole e ⊥ → OnWhole e (x ≡ 0)
-        on ended.Whole x is = absurd is
-        on (ended.Late word) x is = tt
-        on ended.Stopped x is = tt
+  module _ (member card : ℕ) (bindings : List ℕ) (low : length bindings ≡ 0 → s ≤ card) where
+    -- a rewind that ended before, within a frame of which some channels are left
+    left-end : (first n left : ℕ) (end : Ended) → ((P Q : Type 0) → Q → ByEnd end P Q) → left ≤ length bindings → 0 < left
+        → (left ≡ length bindings) ⊎ (s ≤ card + (first + n)) → RewindEnd (suc n) (length bindings) (card + first) s (rewind_left n left (length bindings) end)
+    left-end first n left end before few some any = grind (arith, nat_tests)
 
-        by_test : (all : Bool) → nat_eq left (length bindings) ≡ all → (left ≡ length bindings) ⊎ (s ≤ card + (first + n))
-            → RewindEnd (card + first) (suc n) s (if all then record { frames = n + 1; part = 0; ended = end } else record { frames = n; part = left; ended = end })
-        by_test true is any = record { kept = inl (omega arith, refl); few = omega arith; whole = on end 0 over }
-        by_test false is (inl same) = absurd (grind (arith, nat_tests))
-        by_test false is (inr past) = record { kept = inr (omega (arith, past)); few = omega arith; whole = on end left over }
-
-    pub frames-back : (samples : ℕ → ℕ → ℤ) (first n : ℕ) → Keeps p s (RewindEnd (card + first) n s) (take_frames member card bindings samples first n)
+    pub frames-back : (samples : ℕ → ℕ → ℤ) (first n : ℕ) → Keeps p s (RewindEnd n (length bindings) (card + first) s) (take_frames member card bindings samples first n)
     unfolding take_frames
-    frames-back samples first zero = (refl, record { kept = inl (refl, refl); few = omega arith; whole = refl })
+    frames-back samples first zero = (refl, (nothing-of 0 (length bindings), inl (refl, refl), tt))
     frames-back samples first (suc n) =
-        Keeps-then p s (FrameLeft (card + (first + n)) (length bindings)) (RewindEnd (card + first) (suc n) s)
+        Keeps-then p s (FrameLeft (card + (first + n)) (length bindings)) (RewindEnd (suc n) (length bindings) (card + first) s)
         (take_each member (card + (first + n)) bindings (samples (first + n)) (length bindings))
         (λ end. back_on end n (length bindings) (take_frames member card bindings samples first n))
         (each-back member (card + (first + n)) bindings (samples (first + n)) (length bindings)) (on (frames-back samples first n))
       where
         past : (left : ℕ) → (left ≡ length bindings) ⊎ (s ≤ card + (first + n)) → left ≡ 0 → s ≤ card + (first + n)
-        past left (inl all) none = absurd (omega (arith, all, none, some))
+        past left (inl all) none = let here = low (sym all ∙ none) in omega (arith, here)
         past left (inr is) none = is
 
-        fewer : s ≤ card + (first + n) → (left : Commit) → RewindEnd (card + first) n s left → RewindEnd (card + first) (suc n) s left
-        fewer below left is = record { kept = by_kept is.kept; few = omega (arith, is.few); whole = is.whole }
-          where
-            by_kept : ((left.frames ≡ n) × (left.part ≡ 0)) ⊎ (s ≤ card + first + left.frames) → ((left.frames ≡ suc n) × (left.part ≡ 0)) ⊎ (s ≤ card + first + left.frames)
-            by_kept (inl (all, none)) = inr (omega (arith, all, below))
-            by_kept (inr ends_there) = inr ends_there
+        more : (left : Commit) → IsCommitOf n (length bindings) left → IsCommitOf (suc n) (length bindings) left
+        more left is = let few = is.few in record { few = omega (arith, few); ends = is.ends }
 
-        on : Keeps p s (RewindEnd (card + first) n s) (take_frames member card bindings samples first n) → (end : ℕ × Ended)
+        fewer : s ≤ card + (first + n) → (left : Commit) → RewindEnd n (length bindings) (card + first) s left → RewindEnd (suc n) (length bindings) (card + first) s left
+        fewer below left (is, inl all, some) = let frames = all.0 in (more left is, inr (omega (arith, frames, below)), some)
+        fewer below left (is, inr ends_there, some) = (more left is, inr ends_there, some)
+
+        on : Keeps p s (RewindEnd n (length bindings) (card + first) s) (take_frames member card bindings samples first n) → (end : ℕ × Ended)
             → FrameLeft (card + (first + n)) (length bindings) end
-            → Keeps p s (RewindEnd (card + first) (suc n) s) (back_on end n (length bindings) (take_frames member card bindings samples first n))
-        on rest (left, ended.Whole) (any, none) = Keeps-map p s (RewindEnd (card + first) n s) (RewindEnd (card + first) (suc n) s) (take_frames member card bindings samples first n)
-            rest (fewer (past left any none))
-        on rest (left, ended.Late word) (any, none) = (refl, left-end first n left (ended.Late word) any tt)
-        on rest (left, ended.Stopped) (any, none) = (refl, left-end first n left ended.Stopped any tt)
+            → Keeps p s (RewindEnd (suc n) (length bindings) (card + first) s) (back_on end n (length bindings) (take_frames member card bindings samples first n))
+        on rest (left, ended.Whole) (few, none, any) = Keeps-map p s (RewindEnd n (length bindings) (card + first) s) (RewindEnd (suc n) (length bindings) (card + first) s)
+            (take_frames member card bindings samples first n) rest (fewer (past left any none))
+        on rest (left, ended.Late word) (few, some, any) = (refl, left-end first n left (ended.Late word) (λ P Q is. is) few some any)
+        on rest (left, ended.Stopped) (few, some, any) = (refl, left-end first n left ended.Stopped (λ P Q is. is) few some any)
 
 -- ---- a load, and the commit after it
 

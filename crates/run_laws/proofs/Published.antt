@@ -1,39 +1,38 @@
 -- What a phase publishes isn't before the position at which it begins, or after that at which it ends.
-use Rattle.run_laws.specs.Prelude.{arith, length, List, subst, ℕ, [], ◌+◌, ◌<◌, ◌∷◌, ◌≤◌, sum_by-cons, AllByRecursion, range_with_len, Bool, Contains, false}
-use Rattle.run_laws.specs.Prelude.{filter, if◌then◌else◌, slice_index_or, suc, true, zero, ◌%◌, ◌==◌, Line, on_the_way, phase_positions, played_at, played_in}
-use Rattle.run_laws.specs.Prelude.{published_by}
-use Rattle.run_laws.proofs.Lists.{each-append}
+use Rattle.run_laws.specs.Prelude.{arith, List, subst, ℕ, [], ◌+◌, ◌<◌, ◌∷◌, ◌≡◌, ◌≤◌, All-append, All-cons, All-contains, All-filter, All-nil}
+use Rattle.run_laws.specs.Prelude.{get_or-range_with_len, length-range_with_len, sum_by-cons, range_with_len, All, Contains, ◌%◌, ◌==◌, Line, on_the_way}
+use Rattle.run_laws.specs.Prelude.{phase_positions, played_at, played_in, published_by}
 
-range-each : (P : ℕ → Type 0) (first n : ℕ) → ((q : ℕ) → first ≤ q → q < first + n → P q) → AllByRecursion P (range_with_len first n)
-range-each P first zero all = tt
-range-each P first (suc n) all = (all first (omega arith) (omega arith), range-each P (first + 1) n (λ q low high. all q (omega (arith, low)) (omega (arith, high))))
+abbrev pub IsBetween : ℕ → ℕ → ℕ → Type 0
+IsBetween begin end q = (begin ≤ q) × (q ≤ end)
 
-filter-each : (P : ℕ → Type 0) (test : ℕ → Bool) (xs : List ℕ) → AllByRecursion P xs → AllByRecursion P (filter test xs)
-filter-each P test [] each = tt
-filter-each P test (x ∷ xs) each = by_test (test x) (filter-each P test xs each.1)
+on_the_way-between : (period begin end from frames : ℕ) → begin ≤ from → from + frames ≤ end → All (IsBetween begin end) (on_the_way period from frames)
+on_the_way-between period begin end from frames low high =
+    All-append (IsBetween begin end) _ _
+    (All-filter (λ (q : ℕ). q % period == 0) (IsBetween begin end) (range_with_len (from + 1) frames) range)
+    (All-cons (IsBetween begin end) (from + frames) [] (omega (arith, low), high) (All-nil (IsBetween begin end)))
   where
-    by_test : (b : Bool) → AllByRecursion P (filter test xs) → AllByRecursion P (if b then x ∷ filter test xs else filter test xs)
-    by_test true rest = (each.0, rest)
-    by_test false rest = rest
+    range : All (IsBetween begin end) (range_with_len (from + 1) frames)
+    range k d within =
+        let below : k < frames = subst (λ (n : ℕ). k < n) (length-range_with_len (from + 1) frames) within in
+        let is = get_or-range_with_len (from + 1) frames k d below in
+        (omega (arith, low, is), omega (arith, high, below, is))
 
-lines-each : (P : ℕ → Type 0) (period from : ℕ) (lines : List Line) → ((q : ℕ) → from ≤ q → q ≤ from + played_in lines → P q) → AllByRecursion P (published_by period from lines)
-lines-each P period from [] all = tt
-lines-each P period from (line ∷ lines) all = each-append P (on_the_way period from (played_at line)) (published_by period (from + played_at line) lines)
-    (each-append P (filter (λ q. q % period == 0) (range_with_len (from + 1) (played_at line))) ((from + played_at line) ∷ [])
-    (filter-each P (λ q. q % period == 0) (range_with_len (from + 1) (played_at line)) (range-each P (from + 1) (played_at line)
-    (λ q low high. all q (omega (arith, low)) (omega (arith, high, sum_by-cons played_at line lines)))))
-    (all (from + played_at line) (omega arith) (omega (arith, sum_by-cons played_at line lines)), tt))
-    (lines-each P period (from + played_at line) lines (λ q low high. all q (omega (arith, low)) (omega (arith, high, sum_by-cons played_at line lines))))
+published_by-between : (period begin end from : ℕ) (lines : List Line) → begin ≤ from → from + played_in lines ≤ end → All (IsBetween begin end) (published_by period from lines)
+published_by-between period begin end from [] low high = All-nil (IsBetween begin end)
+published_by-between period begin end from (line ∷ lines) low high =
+    let all : played_in (line ∷ lines) ≡ played_at line + played_in lines = sum_by-cons played_at line lines in
+    All-append (IsBetween begin end) (on_the_way period from (played_at line)) (published_by period (from + played_at line) lines)
+    (on_the_way-between period begin end from (played_at line) low (omega (arith, high, all)))
+    (published_by-between period begin end (from + played_at line) lines (omega (arith, low)) (omega (arith, high, all)))
 
-each-at : (P : ℕ → Type 0) (xs : List ℕ) (k d : ℕ) → k < length xs → AllByRecursion P xs → P (slice_index_or xs k d)
-each-at P [] k d within each = absurd (omega (arith, within))
-each-at P (x ∷ xs) zero d within each = each.0
-each-at P (x ∷ xs) (suc k) d within each = each-at P xs k d (omega (arith, within)) each.1
+pub published-between : (period from : ℕ) (lines : List Line) → All (IsBetween from (from + played_in lines)) (phase_positions period from lines)
+published-between period from lines =
+    All-cons (IsBetween from (from + played_in lines)) from (published_by period from lines) (omega arith, omega arith)
+    (published_by-between period from (from + played_in lines) from lines (omega arith) (omega arith))
 
 pub published-within : (period from : ℕ) (lines : List Line) (q : ℕ) → Contains (phase_positions period from lines) q → (from ≤ q) × (q ≤ from + played_in lines)
-published-within period from lines q (k, within, is) = subst (λ r. (from ≤ r) × (r ≤ from + played_in lines)) is
-    (each-at (λ r. (from ≤ r) × (r ≤ from + played_in lines)) (phase_positions period from lines) k q within
-    ((omega arith, omega arith), lines-each (λ r. (from ≤ r) × (r ≤ from + played_in lines)) period from lines (λ r low high. (low, high))))
+published-within period from lines q there = All-contains (IsBetween from (from + played_in lines)) (phase_positions period from lines) q (published-between period from lines) there
 
 pub published-past : (period from p : ℕ) (lines : List Line) → p ≤ from → (q : ℕ) → Contains (phase_positions period from lines) q → p ≤ q
 published-past period from p lines past q there = let is = published-within period from lines q there in omega (arith, past, is)

@@ -1,18 +1,14 @@
 -- What a line of a reader is answered has a text in a report, and its state afterwards.
-use Rattle.run_laws.specs.Prelude.{None, Option, Some, subst, ℕ, ◌+◌, ◌≡◌, Bool, Err, false, IfSome, if◌then◌else◌, nat_eq, nat_lt, Ok, true, ⊤, ◌&&◌, PcmError}
-use Rattle.run_laws.specs.Prelude.{Call, Running, next_of, Capture, refusal_of, Position, Got, ends, Gives, Gives-behind, Gives-map, CaptureStream, facts_with}
-use Rattle.run_laws.specs.Prelude.{read_after, read_to, waits, with_answer, with_avail, gets_frames, transfer_on, transfers, Op, Answer, HasStateText, HasText}
-use Rattle.run_laws.specs.Prelude.{count_answer, done_answer, Reader, gives-so, GivesSo, reader_line-gives}
-use Rattle.dsnoop_client.specs.Calls.{Answered, over_of, seen_at, with_outcome, after_start, after_sync, taken_of}
-use Rattle.dsnoop_client.specs.Course.{starts, syncs}
-use Rattle.dsnoop_client.specs.View.{avail_of}
+use Rattle.run_laws.specs.Prelude.{arith, None, Option, Some, subst, ℕ, ◌≡◌, nat_tests, Err, IfSome, Ok, ⊤, PcmError, Call, Capture, refusal_of, Position, Got}
+use Rattle.run_laws.specs.Prelude.{ends, Gives, Gives-behind, Gives-map, CaptureStream, facts_with, over_of, read_after, seen_at, taken_of, waits, with_answer}
+use Rattle.run_laws.specs.Prelude.{with_avail, gets_frames, starts, transfer_on, transfers, Op, Answer, HasStateText, HasText, Reader, gives-so, GivesSo}
+use Rattle.run_laws.specs.Prelude.{reader_line-gives}
+use Rattle.dsnoop_client.specs.Calls.{Answered, after_start, after_sync}
+use Rattle.dsnoop_client.specs.Course.{syncs}
 use Rattle.lab_run.specs.Reader.{after_call, call_of, line_by}
 use Rattle.lab_run.proofs.ReadParts.{Parts, call_of-says}
-use Rattle.run_laws.proofs.TableLaws.{CanReport, CanReportIn, next-reports, refusal-reports, reported-reports}
-use Rattle.snd_base.specs.declared.errors.PcmError.TheVariants as error
-use Rattle.snd_base.specs.declared.errors.XrunWhy.TheVariants as why
+use Rattle.run_laws.proofs.TableLaws.{CanReport, CanReportIn, next-reports, refusal-reports, count-text, done-text}
 use Rattle.pcm_states.specs.declared.calls.Call.TheVariants as call
-use Rattle.snoop_core.specs.declared.port.Got.TheVariants as got
 
 -- a reader's state has a text
 abbrev pub HasState : CaptureStream → Type 0
@@ -40,26 +36,11 @@ number-reports : (n : ℕ) (done : Answered (Unit {0})) → Reports done → Rep
 number-reports n (r, Ok done) reports = (tt, reports.1)
 number-reports n (r, Err e) reports = reports
 
-read_to-reports : (r : CaptureStream) (done : ℕ) (ended : Got) → HasState r → Reports (read_to r done ended)
-read_to-reports r done got.Whole is = (tt, is)
-read_to-reports r done (got.Overtaken channel word) is =
-    number-reports 0 (with_outcome r (next_of Running call.Transfer (facts_with false None (Some (why.Overtaken (r.next + done) channel word)))))
-    (next-reports Running call.Transfer (facts_with false None (Some (why.Overtaken (r.next + done) channel word))) tt)
-read_to-reports r done got.Stopped is = (tt, is)
-
 read-reports : (r : CaptureStream) (n done : ℕ) (ended : Got) → HasState r → Reports (read_after r n done ended)
-read-reports r n done ended is = by_test (nat_lt 0 n && nat_eq (avail_of r) 0)
-  where
-    by_test : (none : Bool) → Reports (if none then (r, Err error.Again) else read_to r done ended)
-    by_test true = (tt, is)
-    by_test false = read_to-reports r done ended is
+read-reports r n done ended is = grind (arith, nat_tests)
 
 waits-reports : (r : CaptureStream) (n : ℕ) → HasState r → Reports {T = ℕ} (r, waits n)
-waits-reports r n is = by_test (nat_eq n 0)
-  where
-    by_test : (none : Bool) → Reports {T = ℕ} (r, if none then Ok 0 else Err error.Again)
-    by_test true = (tt, is)
-    by_test false = (tt, is)
+waits-reports r n is = grind (arith, nat_tests)
 
 -- ---- the calls
 
@@ -105,17 +86,9 @@ reads-report r is = record {
 abbrev IsSaid : CaptureStream × Answer → Type 0
 IsSaid (d, answer) = HasText answer × HasState d
 
-done-said : (x : Answered (Unit {0})) → Reports x → IsSaid (x.0, done_answer x.1)
-done-said (d, Ok done) reports = (tt, reports.1)
-done-said (d, Err e) reports = (reported-reports e reports.0, reports.1)
-
-count-said : (x : Answered ℕ) → Reports x → IsSaid (x.0, count_answer x.1)
-count-said (d, Ok n) reports = (tt, reports.1)
-count-said (d, Err e) reports = (reported-reports e reports.0, reports.1)
-
 call-said : (r : CaptureStream) (asked : Op) → HasState r → Gives IsSaid (call_of r asked)
-call-said r asked is = call_of-says GivesSo gives-so (reads-report r is) (λ o w. IsSaid) (λ o w x reports. done-said x reports) (λ w x reports. count-said x reports)
-    (λ n w x reports. count-said x reports) (λ o. (tt, is)) (λ o. (tt, is)) asked
+call-said r asked is = call_of-says GivesSo gives-so (reads-report r is) (λ o w. IsSaid) (λ o w x reports. (done-text x.1 reports.0, reports.1)) (λ w x reports. (count-text x.1 reports.0, reports.1))
+    (λ n w x reports. (count-text x.1 reports.0, reports.1)) (λ o. (tt, is)) (λ o. (tt, is)) asked
 
 -- a reader that is open has a state with a text
 abbrev pub IsReportable : Option CaptureStream → Type 0

@@ -1,15 +1,17 @@
 -- A reader's frames are captured ones: each that it gets is after the others, and below the position known. So they are at most as many as the card has captured.
 use Rattle.run_laws.specs.Prelude.{ap, arith, inl, inr, length, List, None, Option, refl, Some, subst, sym, ℕ, [], ◌++◌, ◌+◌, ◌-◌, ◌∷◌, ◌≡◌, ◌≤◌, ◌⊎◌}
-use Rattle.run_laws.specs.Prelude.{range_with_len, Bool, Err, false, if◌then◌else◌, nat_eq, nat_lt, Ok, Result, suc, true, unwrap_or, zero, ⊤, ◌&&◌, PcmError}
-use Rattle.run_laws.specs.Prelude.{Call, State, next_of, Position, Got, ends, ◌>>=◌, CaptureStream, facts_with, read_after, read_to, waits, with_avail, get_on}
-use Rattle.run_laws.specs.Prelude.{gets_frames, transfer_on, transfers, Op, Answer, Failed, count_answer, done_answer, frames_by, Reader, AreRisingFrames}
+use Rattle.run_laws.specs.Prelude.{nat_tests, append-nil, range_with_len, Bool, Contains, Err, false, if◌then◌else◌, Ok, Result, suc, true, zero, ⊤, PcmError}
+use Rattle.run_laws.specs.Prelude.{Call, State, next_of, Position, Got, ends, ◌>>=◌, CaptureStream, facts_with, over_of, read_after, seen_at, taken_of, waits}
+use Rattle.run_laws.specs.Prelude.{with_avail, get_on, gets_frames, starts, transfer_on, transfers, Op, Answer, Failed, count_answer, done_answer, frames_by}
+use Rattle.run_laws.specs.Prelude.{Reader, Rules, AreRisingFrames}
 use Rattle.pcm_states.specs.declared.calls.Outcome.{Outcome}
-use Rattle.dsnoop_client.specs.Calls.{Answered, in_state, over_of, seen_at, with_outcome, after_sync, taken_of}
-use Rattle.dsnoop_client.specs.Course.{one_more, starts, syncs}
-use Rattle.dsnoop_client.specs.View.{avail_of, is_running}
+use Rattle.dsnoop_client.specs.Calls.{Answered, in_state, with_outcome, after_sync}
+use Rattle.dsnoop_client.specs.Course.{syncs}
+use Rattle.dsnoop_client.specs.View.{is_running}
 use Rattle.lab_run.specs.Reader.{after_call, call_of, line_by, line_if}
 use Rattle.lab_run.proofs.ReadParts.{Parts, call_of-says}
-use Rattle.run_laws.proofs.Known.{AllKnown, AllKnown-then, KnownSo, known-so}
+use Rattle.run_laws.proofs.Known.{AllKnown, gets-known, known_at, loads-known}
+use Rattle.run_laws.proofs.Yields.{Yields, Yields-ends, Yields-then, yields-so}
 use Rattle.snd_base.specs.declared.errors.PcmError.TheVariants as error
 use Rattle.pcm_states.specs.declared.calls.Call.TheVariants as call
 use Rattle.pcm_states.specs.declared.states.State.TheVariants as state
@@ -17,10 +19,6 @@ use Rattle.snoop_core.specs.declared.port.Got.TheVariants as got
 use Rattle.lab_lines.specs.declared.line.Op.TheVariants as op
 
 -- ---- frames that rise
-
-pub rising-end : (least end : ℕ) (frames : List ℕ) → AreRisingFrames least end frames → least ≤ end
-rising-end least end [] rising = rising
-rising-end least end (frame ∷ frames) (low, rising) = let past = rising-end (frame + 1) end frames rising in omega (arith, low, past)
 
 rising-less : (least more end : ℕ) (frames : List ℕ) → least ≤ more → AreRisingFrames more end frames → AreRisingFrames least end frames
 rising-less least more end [] less rising = omega (arith, less, rising)
@@ -30,6 +28,9 @@ rising-few : (least end : ℕ) (frames : List ℕ) → AreRisingFrames least end
 rising-few least end [] rising = omega (arith, rising)
 rising-few least end (frame ∷ frames) (low, rising) = let few = rising-few (frame + 1) end frames rising in omega (arith, low, few)
 
+pub rising-end : (least end : ℕ) (frames : List ℕ) → AreRisingFrames least end frames → least ≤ end
+rising-end least end frames rising = let few = rising-few least end frames rising in omega (arith, few)
+
 rising-append : (least between end : ℕ) (frames more : List ℕ) → AreRisingFrames least between frames → AreRisingFrames between end more
     → AreRisingFrames least end (frames ++ more)
 rising-append least between end [] more low rising = rising-less least between end more low rising
@@ -37,8 +38,7 @@ rising-append least between end (frame ∷ frames) more (low, rising) after = (l
 
 -- with a later end
 pub rising-later : (least end more : ℕ) (frames : List ℕ) → end ≤ more → AreRisingFrames least end frames → AreRisingFrames least more frames
-rising-later least end more [] later rising = omega (arith, later, rising)
-rising-later least end more (frame ∷ frames) later (low, rising) = (low, rising-later (frame + 1) end more frames later rising)
+rising-later least end more frames later rising = subst (AreRisingFrames least more) (append-nil frames) (rising-append least end more frames [] rising later)
 
 rising-range : (least end first count : ℕ) → least ≤ first → first + count ≤ end → AreRisingFrames least end (range_with_len first count)
 rising-range least end first zero low few = omega (arith, low, few)
@@ -81,85 +81,12 @@ gone-stays : (base known : ℕ) (s : State) (d : CaptureStream) → base ≤ kno
 gone-stays base known state.Running d low next = (low, next)
 gone-stays base known other d low next = (low, λ runs. absurd (cc))
 
-starts-begins : (base known : ℕ) (r : CaptureStream) → base ≤ known → is_running r.status.state ≡ false → AllKnown (Begins base) known (starts r call.Transfer)
-unfolding starts
-starts-begins base known r low not = ((low, λ runs. absurd (cc)), λ p newer. by_gone p (omega (arith, low, newer)) p.gone)
-  where
-    by_gone : (p : Position) → base ≤ p.frame → (gone : Bool)
-        → Begins base p.frame (with_outcome (if gone then seen_at r p else record r { seen = Some p.frame; next = p.frame }) (next_of r.status.state call.Transfer (facts_with gone None None)))
-    by_gone p past true = gone-begins base p.frame r.status.state (seen_at r p) past not
-    by_gone p past false =
-        let d : CaptureStream = record r { seen = Some p.frame; next = p.frame } in
-        let o : Outcome = next_of r.status.state call.Transfer (facts_with false None None) in
-        with_outcome-begins base p.frame d o.state o.answer past past refl
-
-starts-stays : (base known : ℕ) (r : CaptureStream) → base ≤ known → IsPast base r → AllKnown (Stays base) known (starts r call.Start)
-unfolding starts
-starts-stays base known r low next = ((low, next), λ p newer. by_gone p (omega (arith, low, newer)) p.gone)
-  where
-    by_gone : (p : Position) → base ≤ p.frame → (gone : Bool)
-        → Stays base p.frame (with_outcome (if gone then seen_at r p else record r { seen = Some p.frame; next = p.frame }) (next_of r.status.state call.Start (facts_with gone None None)))
-    by_gone p past true = gone-stays base p.frame r.status.state (seen_at r p) past next
-    by_gone p past false = (past, λ runs. past)
-
-syncs-begins : (base known : ℕ) (r : CaptureStream) (asked : Call) → base ≤ known → base ≤ r.next → AllKnown (Begins base) known (syncs r asked)
-unfolding syncs
-syncs-begins base known r asked low next = ((low, λ runs. next), λ p newer. by_load p (omega (arith, low, newer)))
-  where
-    by_load : (p : Position) → base ≤ p.frame → Begins base p.frame (after_sync r asked (Some p))
-    by_load p past =
-        let o : Outcome = next_of r.status.state asked (facts_with p.gone (over_of (seen_at r p)) None) in
-        with_outcome-begins base p.frame (seen_at r p) o.state o.answer past next refl
-
-syncs-stays : (base known : ℕ) (r : CaptureStream) (asked : Call) → base ≤ known → base ≤ r.next → AllKnown (Stays base) known (syncs r asked)
-unfolding syncs
-syncs-stays base known r asked low next = ((low, λ runs. next), λ p newer. (omega (arith, low, newer), λ runs. next))
-
--- so many frames are got at most
-gets-few : (known count first : ℕ) → AllKnown (λ later (x : ℕ × Got). (later ≡ known) × (x.0 ≤ count)) known (gets_frames count first)
-unfolding gets_frames
-gets-few known zero first = (refl, omega arith)
-gets-few known (suc count) first = by_end (gets-few known count (first + 1))
-  where
-    by_end : AllKnown (λ later (x : ℕ × Got). (later ≡ known) × (x.0 ≤ count)) known (gets_frames count (first + 1))
-        → (how : Got) → AllKnown (λ later (x : ℕ × Got). (later ≡ known) × (x.0 ≤ suc count)) known (get_on how (gets_frames count (first + 1)))
-    by_end rest got.Whole = AllKnown-then (λ later (x : ℕ × Got). (later ≡ known) × (x.0 ≤ count)) (λ later (x : ℕ × Got). (later ≡ known) × (x.0 ≤ suc count)) known
-        (gets_frames count (first + 1)) (λ end. ends (one_more end)) rest (λ later x few. (few.0, let low = few.1 in omega (arith, low)))
-    by_end rest (got.Overtaken channel word) = (refl, omega arith)
-    by_end rest got.Stopped = (refl, omega arith)
-
--- a read that got at most what was available
-read_to-reads : (base known : ℕ) (d : CaptureStream) (done : ℕ) (how : Got) → base ≤ known → base ≤ d.next → done ≤ known - d.next → Reads base known (read_to d done how)
-read_to-reads base known d zero got.Whole low next few = inl (refl, low, λ runs. omega (arith, next))
-read_to-reads base known d (suc n) got.Whole low next few = inr (omega (arith, next), omega (arith, few))
-read_to-reads base known d done (got.Overtaken channel word) low next few = (low, λ runs. next)
-read_to-reads base known d done got.Stopped low next few = (low, λ runs. next)
-
 read-reads : (base known : ℕ) (d : CaptureStream) (n done : ℕ) (how : Got) → base ≤ known → base ≤ d.next → d.seen ≡ Some known → done ≤ taken_of d n
     → Reads base known (read_after d n done how)
-read-reads base known d n done how low next seen few = by_test (nat_lt 0 n && nat_eq (avail_of d) 0)
-  where
-    avail : avail_of d ≡ known - d.next
-    avail = ap (λ (s : Option ℕ). unwrap_or s 0 - d.next) seen
-
-    by_test : (none : Bool) → Reads base known (if none then (d, Err error.Again) else read_to d done how)
-    by_test true = (low, λ runs. next)
-    by_test false = read_to-reads base known d done how low next (omega (arith, few, avail))
-
-transfer_on-reads : (base known n : ℕ) (done : Answered (Unit {0})) → Begins base known done → AllKnown (Reads base) known (transfer_on n done)
-unfolding transfers
-transfer_on-reads base known n (d, Err e) is = is
-transfer_on-reads base known n (d, Ok done) (low, next, seen) =
-    AllKnown-then (λ later (x : ℕ × Got). (later ≡ known) × (x.0 ≤ taken_of d n)) (Reads base) known (gets_frames (taken_of d n) d.next)
-    (λ end. ends (read_after d n end.0 end.1)) (gets-few known (taken_of d n) d.next)
-    (λ later x few. subst (λ (k : ℕ). Reads base k (read_after d n x.0 x.1)) (sym few.0) (read-reads base known d n x.0 x.1 low next seen few.1))
+read-reads base known d n done how low next seen few = grind (arith, nat_tests)
 
 waits-reads : (base known : ℕ) (r : CaptureStream) (n : ℕ) → base ≤ known → IsPast base r → Reads base known (r, waits n)
-waits-reads base known r n low next = by_test (nat_eq n 0)
-  where
-    by_test : (none : Bool) → Reads base known (r, if none then Ok 0 else Err error.Again)
-    by_test true = inl (refl, low, next)
-    by_test false = (low, next)
+waits-reads base known r n low next = grind (arith, nat_tests)
 
 -- ---- the calls
 
@@ -167,24 +94,77 @@ with_avail-stays : (base known : ℕ) (done : Answered (Unit {0})) → Stays bas
 with_avail-stays base known (d, Ok done) is = is
 with_avail-stays base known (d, Err e) is = is
 
-reads-stay : (base known : ℕ) (r : CaptureStream) → base ≤ known → IsPast base r
-    → Parts KnownSo r known (Begins base) (Stays base) (Stays base) (Reads base)
-reads-stay base known r low next = record {
-  same = (low, next);
-  none = (low, next);
-  refused = λ asked e is. (low, next);
-  not_counted = λ asked e is. (low, next);
-  not_read = λ asked e is. (low, next);
-  starts_so = starts-stays base known r low next;
-  syncs_so = λ runs. syncs-stays base known r call.Sync low (next runs);
-  available = λ later done is. with_avail-stays base later done is;
-  goes_on = λ runs. syncs-begins base known r call.Transfer low (next runs);
-  begins = λ still. starts-begins base known r low still;
-  gets_on = λ n later done is. transfer_on-reads base later n done is;
-  waiting = λ n. waits-reads base known r n low next;
-  dropped = (low, λ runs. absurd (cc));
-  prepared = (low, λ runs. absurd (cc));
-}
+module _ {rules : Rules} {begin : ℕ} (least : (q : ℕ) → Contains rules.published q → begin ≤ q) where
+  starts-begins : (base known : ℕ) (r : CaptureStream) → base ≤ known → is_running r.status.state ≡ false → AllKnown rules begin (Begins base) known (starts r call.Transfer)
+  unfolding starts
+  starts-begins base known r low not = loads-known least (Yields-ends (low, λ runs. absurd (cc))) (λ p newer. Yields-ends (by_gone p (omega (arith, low, newer)) p.gone))
+    where
+      by_gone : (p : Position) → base ≤ p.frame → (gone : Bool)
+          → Begins base p.frame (with_outcome (if gone then seen_at r p else record r { seen = Some p.frame; next = p.frame }) (next_of r.status.state call.Transfer (facts_with gone None None)))
+      by_gone p past true = gone-begins base p.frame r.status.state (seen_at r p) past not
+      by_gone p past false =
+          let d : CaptureStream = record r { seen = Some p.frame; next = p.frame } in
+          let o : Outcome = next_of r.status.state call.Transfer (facts_with false None None) in
+          with_outcome-begins base p.frame d o.state o.answer past past refl
+
+  starts-stays : (base known : ℕ) (r : CaptureStream) → base ≤ known → IsPast base r → AllKnown rules begin (Stays base) known (starts r call.Start)
+  unfolding starts
+  starts-stays base known r low next = loads-known least (Yields-ends (low, next)) (λ p newer. Yields-ends (by_gone p (omega (arith, low, newer)) p.gone))
+    where
+      by_gone : (p : Position) → base ≤ p.frame → (gone : Bool)
+          → Stays base p.frame (with_outcome (if gone then seen_at r p else record r { seen = Some p.frame; next = p.frame }) (next_of r.status.state call.Start (facts_with gone None None)))
+      by_gone p past true = gone-stays base p.frame r.status.state (seen_at r p) past next
+      by_gone p past false = (past, λ runs. past)
+
+  syncs-begins : (base known : ℕ) (r : CaptureStream) (asked : Call) → base ≤ known → base ≤ r.next → AllKnown rules begin (Begins base) known (syncs r asked)
+  unfolding syncs
+  syncs-begins base known r asked low next = loads-known least (Yields-ends (low, λ runs. next)) (λ p newer. Yields-ends (by_load p (omega (arith, low, newer))))
+    where
+      by_load : (p : Position) → base ≤ p.frame → Begins base p.frame (after_sync r asked (Some p))
+      by_load p past =
+          let o : Outcome = next_of r.status.state asked (facts_with p.gone (over_of (seen_at r p)) None) in
+          with_outcome-begins base p.frame (seen_at r p) o.state o.answer past next refl
+
+  syncs-stays : (base known : ℕ) (r : CaptureStream) (asked : Call) → base ≤ known → base ≤ r.next → AllKnown rules begin (Stays base) known (syncs r asked)
+  unfolding syncs
+  syncs-stays base known r asked low next = loads-known least (Yields-ends (low, λ runs. next)) (λ p newer. Yields-ends (omega (arith, low, newer), λ runs. next))
+
+  -- so many frames are got at most
+  gets-few : (known count first : ℕ) → AllKnown rules begin (λ later (x : ℕ × Got). (later ≡ known) × (x.0 ≤ count)) known (gets_frames count first)
+  unfolding gets_frames
+  gets-few known zero first = Yields-ends (refl, omega arith)
+  gets-few known (suc count) first = gets-known begin (by_end (gets-few known count (first + 1)))
+    where
+      by_end : AllKnown rules begin (λ later (x : ℕ × Got). (later ≡ known) × (x.0 ≤ count)) known (gets_frames count (first + 1))
+          → (how : Got) → AllKnown rules begin (λ later (x : ℕ × Got). (later ≡ known) × (x.0 ≤ suc count)) known (get_on how (gets_frames count (first + 1)))
+      by_end rest got.Whole = Yields-then rest (λ later x few. Yields-ends (few.0, let low = few.1 in omega (arith, low)))
+      by_end rest (got.Overtaken channel word) = Yields-ends (refl, omega arith)
+      by_end rest got.Stopped = Yields-ends (refl, omega arith)
+
+  transfer_on-reads : (base known n : ℕ) (done : Answered (Unit {0})) → Begins base known done → AllKnown rules begin (Reads base) known (transfer_on n done)
+  unfolding transfers
+  transfer_on-reads base known n (d, Err e) is = Yields-ends is
+  transfer_on-reads base known n (d, Ok done) (low, next, seen) = Yields-then (gets-few known (taken_of d n) d.next)
+      (λ later x few. Yields-ends (subst (λ (k : ℕ). Reads base k (read_after d n x.0 x.1)) (sym few.0) (read-reads base known d n x.0 x.1 low next seen few.1)))
+
+  reads-stay : (base known : ℕ) (r : CaptureStream) → base ≤ known → IsPast base r
+      → Parts (Yields rules (known_at begin)) r known (Begins base) (Stays base) (Stays base) (Reads base)
+  reads-stay base known r low next = record {
+    same = (low, next);
+    none = (low, next);
+    refused = λ asked e is. (low, next);
+    not_counted = λ asked e is. (low, next);
+    not_read = λ asked e is. (low, next);
+    starts_so = starts-stays base known r low next;
+    syncs_so = λ runs. syncs-stays base known r call.Sync low (next runs);
+    available = λ later done is. with_avail-stays base later done is;
+    goes_on = λ runs. syncs-begins base known r call.Transfer low (next runs);
+    begins = λ still. starts-begins base known r low still;
+    gets_on = λ n later done is. transfer_on-reads base later n done is;
+    waiting = λ n. waits-reads base known r n low next;
+    dropped = (low, λ runs. absurd (cc));
+    prepared = (low, λ runs. absurd (cc));
+  }
 
 -- ---- the lines
 
@@ -223,20 +203,11 @@ read-left base n known (d, Ok count) (inr (next, low)) =
 read-left base n known (d, Err e) is = none-left base known (op.Read n) d (count_answer (Err e)) refl is
 
 no-frames : (o : Op) (r : Result (Unit {0}) PcmError) (d : CaptureStream) → frames_by o (done_answer r) d ≡ []
-no-frames (op.Read n) (Ok done) d = refl
-no-frames (op.Read n) (Err e) d = refl
-no-frames other r d = refl
+no-frames other r d = grind (arith, nat_tests)
 
 failed-frames : (o : Op) (e : PcmError) (d : CaptureStream) → frames_by o (Failed e) d ≡ []
 failed-frames (op.Read n) e d = refl
 failed-frames other e d = refl
-
-call-left : (base known : ℕ) (r : CaptureStream) (asked : Op) → base ≤ known → IsPast base r → AllKnown (λ later x. IsLeft base later asked x) known (call_of r asked)
-call-left base known r asked low next = call_of-says KnownSo known-so (reads-stay base known r low next) (λ o later x. IsLeft base later o x)
-    (λ o later x is. none-left base later o x.0 (done_answer x.1) (no-frames o x.1 x.0) is)
-    (λ later x is. none-left base later op.Avail x.0 (count_answer x.1) refl is) (λ n later x is. read-left base n later x is)
-    (λ o. none-left base known o r (Failed error.NotSupported) (failed-frames o error.NotSupported r) (low, next))
-    (λ o. none-left base known o r (Failed error.BadState) (failed-frames o error.BadState r) (low, next)) asked
 
 -- a line adds the frames that its call got
 line-left : (first base known : ℕ) (reader : Reader) (asked : Op) (x : CaptureStream × Answer) → AreRisingFrames first base reader.frames → IsLeft base known asked x
@@ -244,25 +215,26 @@ line-left : (first base known : ℕ) (reader : Reader) (asked : Op) (x : Capture
 line-left first base known reader asked (d, answer) rising (end, more, low, past) =
     (end, rising-append first base end reader.frames (frames_by asked answer d) rising more, low, past)
 
-pub line-has : (first known : ℕ) (reader : Reader) (own : Option CaptureStream) (asked : Op) → reader.own ≡ own → HasFrames first known reader
-    → AllKnown (LineHas first) known (line_by reader own asked)
-line-has first known reader None asked is has = has
-line-has first known reader (Some r) asked is has = by_stop r.status.stopped asked
-  where
-    base : ℕ
-    base = has.0
+module _ {rules : Rules} {begin : ℕ} (least : (q : ℕ) → Contains rules.published q → begin ≤ q) where
+  call-left : (base known : ℕ) (r : CaptureStream) (asked : Op) → base ≤ known → IsPast base r → AllKnown rules begin (λ later x. IsLeft base later asked x) known (call_of r asked)
+  call-left base known r asked low next = call_of-says (Yields rules (known_at begin)) (yields-so rules (known_at begin)) (reads-stay least base known r low next) (λ o later x. IsLeft base later o x)
+      (λ o later x is. none-left base later o x.0 (done_answer x.1) (no-frames o x.1 x.0) is)
+      (λ later x is. none-left base later op.Avail x.0 (count_answer x.1) refl is) (λ n later x is. read-left base n later x is)
+      (λ o. none-left base known o r (Failed error.NotSupported) (failed-frames o error.NotSupported r) (low, next))
+      (λ o. none-left base known o r (Failed error.BadState) (failed-frames o error.BadState r) (low, next)) asked
 
-    past : IsPast base r
-    past = subst (IsOwnPast base) is has.3
+  pub line-has : (first known : ℕ) (reader : Reader) (own : Option CaptureStream) (asked : Op) → reader.own ≡ own → HasFrames first known reader
+      → AllKnown rules begin (LineHas first) known (line_by reader own asked)
+  line-has first known reader None asked is has = Yields-ends has
+  line-has first known reader (Some r) asked is has = by_stop r.status.stopped asked
+    where
+      by_call : (o : Op) → AllKnown rules begin (LineHas first) known (call_of r o >>= λ done. ends (after_call reader o done))
+      by_call o = Yields-then (call-left has.0 known r o has.2 (subst (IsOwnPast has.0) is has.3)) (λ later x left. Yields-ends (line-left first has.0 later reader o x has.1 left))
 
-    by_call : (o : Op) → AllKnown (LineHas first) known (call_of r o >>= λ done. ends (after_call reader o done))
-    by_call o = AllKnown-then (λ later x. IsLeft base later o x) (LineHas first) known (call_of r o) (λ done. ends (after_call reader o done))
-        (call-left base known r o has.2 past) (λ later x left. line-left first base later reader o x has.1 left)
+      by_op : (o : Op) → AllKnown rules begin (LineHas first) known (line_if false reader r o)
+      by_op (op.Die k) = Yields-ends has
+      by_op other = by_call other
 
-    by_op : (o : Op) → AllKnown (LineHas first) known (line_if false reader r o)
-    by_op (op.Die k) = has
-    by_op other = by_call other
-
-    by_stop : (stopped : Bool) (o : Op) → AllKnown (LineHas first) known (line_if stopped reader r o)
-    by_stop true o = has
-    by_stop false o = by_op o
+      by_stop : (stopped : Bool) (o : Op) → AllKnown rules begin (LineHas first) known (line_if stopped reader r o)
+      by_stop true o = Yields-ends has
+      by_stop false o = by_op o

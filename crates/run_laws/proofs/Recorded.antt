@@ -1,34 +1,22 @@
 -- What the readers recorded is the captured frames of their runs.
-use Rattle.run_laws.specs.Prelude.{ap, arith, inl, inr, length, List, None, Option, refl, Some, subst, sym, ℕ, [], ◌*◌, ◌++◌, ◌+◌, ◌∙◌, ◌∷◌, ◌≡◌, ◌⊎◌, eqb-true}
-use Rattle.run_laws.specs.Prelude.{length-append, length-range_with_len, flat_map, range_with_len, Bool, false, if◌then◌else◌, map, nat_eq, slice_get}
-use Rattle.run_laws.specs.Prelude.{slice_index_or, suc, true, zero, ℤ, Sound, Item, CardLine, ReaderLine, Script, bindings_of, captured_sample, joined_runs}
-use Rattle.run_laws.specs.Prelude.{LabRun, Outcome, runs_of, AreReaderOpenings, IsSessionOf, read_by, rows_by, runs_by, is_reader, Session, Setup, AreSlices}
+use Rattle.run_laws.specs.Prelude.{ap, arith, inl, inr, length, List, None, Option, refl, Some, subst, sym, ℕ, [], ◌*◌, ◌+◌, ◌∙◌, ◌∷◌, ◌≡◌, ◌⊎◌, nat_tests}
+use Rattle.run_laws.specs.Prelude.{length-append, length-map, length-range_with_len, flat_map, range_with_len, map, slice_get, slice_index_or, suc, zero, ℤ}
+use Rattle.run_laws.specs.Prelude.{Sound, Item, CardLine, ReaderLine, Script, bindings_of, captured_sample, joined_runs, LabRun, Outcome, runs_of}
+use Rattle.run_laws.specs.Prelude.{AreReaderOpenings, IsReaderOpening, IsSessionOf, read_by, rows_by, runs_by, is_reader, Session, Setup, AreSlices}
 use Rattle.run_laws.specs.Prelude.{ReadersReadInSlices, ReadsInSlices, recorded_from-size, AreRecordingsOf, bindings_at, frames_in_runs, frames_of_runs}
 use Rattle.run_laws.specs.Prelude.{IsRecordingOf, ReadersAreBound, recording_of}
-use Rattle.run_laws.proofs.OwnLines.{map-size}
 use Rattle.run_laws.proofs.Sizes.{run-size}
 
 -- the frames of the runs of some frames are these frames
 joined-frames : (frame : ℕ) (runs : List (ℕ × ℕ)) → frames_of_runs (joined_runs frame runs) ≡ frame ∷ frames_of_runs runs
-joined-frames frame [] = refl
-joined-frames frame ((first, count) ∷ runs) = by_test (nat_eq (frame + 1) first) refl
-  where
-    more : count + 1 ≡ suc count
-    more = omega arith
-
-    by_test : (next : Bool) → nat_eq (frame + 1) first ≡ next
-        → frames_of_runs (if next then (frame, count + 1) ∷ runs else (frame, 1) ∷ (first, count) ∷ runs) ≡ frame ∷ range_with_len first count ++ frames_of_runs runs
-    by_test true is =
-        ap (λ n. range_with_len frame n ++ frames_of_runs runs) more
-        ∙ ap (λ f. frame ∷ range_with_len f count ++ frames_of_runs runs) (eqb-true (frame + 1) first is)
-    by_test false is = refl
+joined-frames frame runs = grind (arith, nat_tests)
 
 runs-frames : (frames : List ℕ) → frames_of_runs (runs_of frames) ≡ frames
 runs-frames [] = refl
 runs-frames (frame ∷ frames) = joined-frames frame (runs_of frames) ∙ ap (λ fs. frame ∷ fs) (runs-frames frames)
 
 -- how many samples a recording has
-frames-count : (runs : List (ℕ × ℕ)) → length (frames_of_runs runs) ≡ frames_in_runs runs
+pub frames-count : (runs : List (ℕ × ℕ)) → length (frames_of_runs runs) ≡ frames_in_runs runs
 frames-count [] = refl
 frames-count ((first, count) ∷ runs) =
     length-append (range_with_len first count) (frames_of_runs runs)
@@ -39,7 +27,7 @@ pub samples-count : (sample_of : ℕ → ℕ → ℤ) (bindings frames : List �
 samples-count sample_of bindings [] = omega arith
 samples-count sample_of bindings (frame ∷ frames) =
     length-append (map (sample_of frame) bindings) (flat_map (λ f. map (sample_of f) bindings) frames)
-    ∙ ap (λ n. n + length (flat_map (λ f. map (sample_of f) bindings) frames)) (map-size (sample_of frame) bindings)
+    ∙ ap (λ n. n + length (flat_map (λ f. map (sample_of f) bindings) frames)) (length-map bindings (sample_of frame))
     ∙ ap (λ n. length bindings + n) (samples-count sample_of bindings frames)
     ∙ step
   where
@@ -71,15 +59,18 @@ LabRun-recordings session capture body client_stops reader_stops outcome read ru
 
 -- ---- bindings
 
-readers-bound : (card : CardLine) (lines : List ReaderLine) (setups : List (Option Setup)) (number : ℕ) (line : ReaderLine) → AreReaderOpenings card lines setups
-    → slice_get lines number ≡ Some line
-    → (slice_index_or setups number None ≡ None) ⊎ (bindings_of (slice_index_or setups number None) ≡ read_by card line)
-readers-bound card [] setups number line are is = absurd (cc)
-readers-bound card (first ∷ lines) [] number line are is = absurd are
-readers-bound card (first ∷ lines) (None ∷ setups) zero line are is = inl refl
-readers-bound card (first ∷ lines) (Some setup ∷ setups) zero line are is =
-    let same : first ≡ line = cc in inr (are.0.bindings ∙ ap (read_by card) same)
-readers-bound card (first ∷ lines) (setup ∷ setups) (suc number) line are is = readers-bound card lines setups number line are.1 is
+-- the opening of the reader of a number
+pub opening-at : (card : CardLine) (lines : List ReaderLine) (setups : List (Option Setup)) (number : ℕ) (line : ReaderLine) → AreReaderOpenings card lines setups
+    → slice_get lines number ≡ Some line → IsReaderOpening card line (slice_index_or setups number None)
+opening-at card [] setups number line are is = absurd (cc)
+opening-at card (first ∷ lines) [] number line are is = absurd are
+opening-at card (first ∷ lines) (setup ∷ setups) zero line are is = let same : first ≡ line = cc in subst (λ (l : ReaderLine). IsReaderOpening card l setup) same are.0
+opening-at card (first ∷ lines) (setup ∷ setups) (suc number) line are is = opening-at card lines setups number line are.1 is
+
+reader-bound : (card : CardLine) (line : ReaderLine) (setup : Option Setup) → IsReaderOpening card line setup → (setup ≡ None) ⊎ (bindings_of setup ≡ read_by card line)
+reader-bound card line None opening = inl refl
+reader-bound card line (Some s) opening = inr opening.bindings
 
 pub session-bound : (script : Script) (wavs : List Sound) (session : Session) → IsSessionOf script wavs session → ReadersAreBound script session
-session-bound script wavs session is number line line_is = readers-bound script.card script.readers session.readers number line is.readers line_is
+session-bound script wavs session is number line line_is = reader-bound script.card line (slice_index_or session.readers number None)
+    (opening-at script.card script.readers session.readers number line is.readers line_is)

@@ -1,27 +1,24 @@
 -- Each row of a report that is answered late is that of a line of the run.
-use Rattle.run_laws.specs.Prelude.{ap, arith, List, None, Option, refl, Some, subst, sym, ℕ, [], ◌++◌, ◌+◌, ◌∙◌, ◌∷◌, ◌≡◌, append-nil, append_assoc}
-use Rattle.run_laws.specs.Prelude.{All-from_recursion, AllByRecursion, Err, IfErr, IfSome, Ok, Result, slice_index_or, suc, true, PcmError, Segment}
-use Rattle.run_laws.specs.Prelude.{PlaybackStream, Sound, Item, Line, Op, Report, Answer, Failed, Row, is_of_card, played_by, claim_refusal, Client, row_by}
-use Rattle.run_laws.specs.Prelude.{segments_of, client_kinds, held_of, ItemMay, ItemsMay, no_sound, phase_end, reader_kinds, rules_of, LabRun, Outcome}
-use Rattle.run_laws.specs.Prelude.{report_of, EachMay, Kind, LineMay, LinesMay, segments_by, card_row, card_rows, is_client, is_reader, ops_by, after_attach}
-use Rattle.run_laws.specs.Prelude.{Lobby, Reader, reader_kind, AtPort, Rules, attached_client, claimed_client, client_at, close_client, close_reader}
-use Rattle.run_laws.specs.Prelude.{first_stage, no_client, open_client, open_client_with, open_reader, open_reader_with, reader_at, Session, Setup, Stage}
-use Rattle.run_laws.specs.Prelude.{items-more, IsLate, IsLineOf, IsRowOfLine, LateLinesMiss, LateRowsMiss, ListsSegments, RowMisses, RowNamesLast}
-use Rattle.run_laws.specs.Prelude.{SaysWhereLate, is_rewind}
-use Rattle.run_laws.proofs.Borders.{IsBusy, attached-busy, claim-busy}
+use Rattle.run_laws.specs.Prelude.{ap, arith, List, None, Option, refl, Some, subst, sym, ℕ, [], ◌++◌, ◌+◌, ◌∙◌, ◌∷◌, ◌≡◌, nat_tests, append-nil, append_assoc}
+use Rattle.run_laws.specs.Prelude.{All-from_recursion, AllByRecursion, slice_index_or, suc, true, PcmError, Segment, State, PlaybackStream, Sound, Actor, Item}
+use Rattle.run_laws.specs.Prelude.{Line, Op, Report, Answer, Done, Failed, Row, is_of_card, played_by, Client, row_by, segments_of, client_kinds, held_of}
+use Rattle.run_laws.specs.Prelude.{ItemMay, ItemsMay, no_sound, phase_end, reader_kinds, rules_of, LabRun, Outcome, report_of, EachMay, Kind, LineMay, LinesMay}
+use Rattle.run_laws.specs.Prelude.{segments_by, card_row, card_rows, is_client, is_reader, ops_by, Reader, reader_kind, AtPort, Rules, client_at, first_stage}
+use Rattle.run_laws.specs.Prelude.{no_client, Session, Stage, stage_row, AtBorder, closes-to, IsRefusal, opens-to, items-more, IsLate, IsLineOf, IsRowOfLine}
+use Rattle.run_laws.specs.Prelude.{LateLinesMiss, LateRowsMiss, ListsSegments, RowMisses, RowNamesLast, SaysWhereLate, is_rewind}
 use Rattle.run_laws.proofs.Listed.{OverAt, late-over, listed-at, over-held}
 use Rattle.run_laws.proofs.Lists.{each-append}
+use Rattle.run_laws.proofs.RunGoesOn.{items-append}
 use Rattle.run_laws.proofs.Sealed.{IsStart, Over, over-lines}
 use Rattle.run_laws.proofs.Stages.{items-held, reaped-held}
 use Rattle.snd_base.specs.declared.errors.PcmError.TheVariants as error
-use Rattle.snd_base.specs.declared.errors.XrunWhy.TheVariants as why
 use Rattle.dsnoop_client.specs.declared.stream.CaptureStream as reading
 use Rattle.lab_lines.specs.declared.line.Actor.TheVariants as actor
 use Rattle.lab_lines.specs.declared.line.Item.TheVariants as item
 use Rattle.lab_lines.specs.declared.line.Op.TheVariants as op
 use Rattle.lab_run.specs.Reader as readers
 
--- one line more, and one item more
+-- one line more
 LinesMay-more : {S : Type 0} (kind : Kind S) (rules : Rules) (x before between : AtPort × S) (early : List Op) (asked : Op) (answer : Answer) (rows : List Row)
     → LinesMay kind rules x early before rows → LineMay kind rules before asked between answer
     → LinesMay kind rules x (early ++ asked ∷ []) between (rows ++ kind.row asked between.1 answer ∷ [])
@@ -36,15 +33,11 @@ LinesMay-more kind rules x before between (first ∷ early) asked answer rows (m
   ap (λ r. r ++ kind.row asked between.1 answer ∷ []) are,
 )
 
-ItemsMay-more : (session : Session) (x stage between : Stage) (done : List Item) (one : Item) → ItemsMay session x done stage → ItemMay session stage one between
-    → ItemsMay session x (done ++ one ∷ []) between
-ItemsMay-more session x stage between [] one same may = (between, subst (λ (s : Stage). ItemMay session s one between) same may, refl)
-ItemsMay-more session x stage between (first ∷ done) one (middle, step, rest) may = (middle, step, ItemsMay-more session middle stage between done one rest may)
+-- ---- a refusal is never late
 
--- ---- an opening is never late
-
-busy-early : (e : PcmError) → IsBusy e → (frame channel : ℕ) → IsLate (Failed e) frame channel → ⊥
-busy-early e (until, seen, busy) frame channel late = let is : Failed (error.Busy until seen) ≡ Failed (error.Xrun (why.Late frame channel 0)) = ap (λ x. Failed x) (sym busy) ∙ late in absurd (cc)
+refused-early : (e : PcmError) → IsRefusal e → (frame channel : ℕ) → IsLate (Failed e) frame channel → ⊥
+refused-early (error.Xrun w) refusal frame channel late = absurd refusal
+refused-early other refusal frame channel late = absurd (cc)
 
 -- ---- rows are never taken back
 
@@ -79,35 +72,23 @@ module _ (session : Session) (body : List Item) (report : Report) (late : LateLi
   abbrev ListsOf : ℕ → AtPort × Client → Type 0
   ListsOf number x = (list : List Segment) → Over list x.1 → Lists number list
 
-  is-listed : (number : ℕ) (client : Client) → Lists number (segments_of client) → ListsSegments report number client
-  is-listed number client (others, are) = record { others = others; segments_are = are }
-
-  -- a row with another answer, and a row of another actor
-  answered-other : (row : Row) → ((frame channel : ℕ) → IsLate row.answer frame channel → ⊥) → P row
-  answered-other row other = record {
-    missed = λ number frame channel who not is. absurd (other frame channel is);
-    rewinds = λ number frame channel who rewind is. absurd (other frame channel is);
-  }
-
-  of-other : (row : Row) → ((number : ℕ) → row.actor ≡ actor.Client number → ⊥) → P row
-  of-other row other = record {
-    missed = λ number frame channel who not is. absurd (other number who);
-    rewinds = λ number frame channel who rewind is. absurd (other number who);
-  }
+  -- a row with another answer, or of another actor
+  other-row : (row : Row) → ((number frame channel : ℕ) → row.actor ≡ actor.Client number → IsLate row.answer frame channel → ⊥) → P row
+  other-row row other = grind (arith, nat_tests)
 
   -- ---- rows of a phase
 
   card-P : (phase position : ℕ) (asked : Op) → P (card_row phase position asked)
-  card-P phase position op.Unplug = of-other _ (λ number who. absurd (cc))
-  card-P phase position asked = of-other _ (λ number who. absurd (cc))
+  card-P phase position op.Unplug = other-row _ (λ number frame channel who is. absurd (cc))
+  card-P phase position asked = other-row _ (λ number frame channel who is. absurd (cc))
 
   cards-P : (phase position : ℕ) (ops : List Op) → AllByRecursion P (card_rows phase position ops)
   cards-P phase position [] = tt
   cards-P phase position (asked ∷ more) = (card-P phase position asked, cards-P phase (position + played_by asked) more)
 
   reader-P : (phase number : ℕ) (asked : Op) (own : Option reading.CaptureStream) (answer : Answer) → P (readers.row_by phase number asked own answer)
-  reader-P phase number asked None answer = of-other _ (λ n who. absurd (cc))
-  reader-P phase number asked (Some r) answer = of-other _ (λ n who. absurd (cc))
+  reader-P phase number asked None answer = other-row _ (λ n frame channel who is. absurd (cc))
+  reader-P phase number asked (Some r) answer = other-row _ (λ n frame channel who is. absurd (cc))
 
   reader-lines : (rules : Rules) (phase number : ℕ) (x y : AtPort × Reader) (ops : List Op) (rows : List Row) → LinesMay (reader_kind phase number) rules x ops y rows
       → AllByRecursion P rows
@@ -144,8 +125,9 @@ module _ (session : Session) (body : List Item) (report : Report) (late : LateLi
 
   line-listed : (n : ℕ) (before after : AtPort × Client) (asked : Op) (answer : Answer) (frame channel : ℕ) → IsLineOf session body n before asked after answer → ListsOf n after
       → IsLate answer frame channel → ListsSegments report n after.1
-  line-listed n before after asked answer frame channel line lists is = is-listed n after.1 (lists (segments_of after.1)
-      (late-over (rules_of session line.stage line.lines) (line.stage.phases + 1) (slice_index_or session.sounds n no_sound) n before.0 after.0 before.1 after.1 asked answer frame channel is line.line))
+  line-listed n before after asked answer frame channel line lists is = let listed = lists (segments_of after.1)
+      (late-over (rules_of session line.stage line.lines) (line.stage.phases + 1) (slice_index_or session.sounds n no_sound) n before.0 after.0 before.1 after.1 asked answer frame channel is line.line)
+      in record { others = listed.0; segments_are = listed.1 }
 
   -- of a rewind
   line-last : (n : ℕ) (before after : AtPort × Client) (asked : Op) (answer : Answer) (frame channel : ℕ) (line : IsLineOf session body n before asked after answer)
@@ -234,56 +216,31 @@ module _ (session : Session) (body : List Item) (report : Report) (late : LateLi
 
   -- ---- rows of openings and closings
 
-  one-more : (rows : List Row) (row : Row) → AllByRecursion P rows → P row → AllByRecursion P (rows ++ row ∷ [])
-  one-more rows row are is = each-append P rows (row ∷ []) are (is, tt)
-
-  open-rows : (stage : Stage) (n : ℕ) (x : AtPort × Client) (own : Option PlaybackStream) → AllByRecursion P stage.rows → AllByRecursion P (open_client session stage n x own).rows
-  open-rows stage n x (Some c) are = one-more stage.rows _ are (answered-other _ (λ frame channel is. absurd (cc)))
-  open-rows stage n x None are = by_setup (slice_index_or session.clients n None)
+  border-rows : (stage : Stage) (who : Actor) (asked : Op) → AllByRecursion P stage.rows → AtBorder session stage who asked (λ after. AllByRecursion P after.rows)
+  border-rows stage who asked are = record {
+    none = λ card. are;
+    refused = λ lobby e s seen refusal own. added (Failed e) s seen (refused-early e refusal);
+    opens = λ n setup lobby who_is there closed granted. added Done _ _ never;
+    ends = λ n c who_is is. added Done _ _ never;
+    reader_opens = λ n setup who_is there. added Done _ _ never;
+    reader_ends = λ n seen who_is. added Done _ _ never;
+  }
     where
-      by_answer : (setup : Setup) (at : Lobby × Result (Unit {0}) PcmError) → IfErr at.1 IsBusy → AllByRecursion P (attached_client session stage n setup x at).rows
-      by_answer setup (lobby, Ok done) busy = one-more stage.rows _ are (answered-other _ (λ frame channel is. absurd (cc)))
-      by_answer setup (lobby, Err e) busy = one-more stage.rows _ are (answered-other _ (busy-early e busy))
+      added : (answer : Answer) (s : State) (seen : Option ℕ) → ((frame channel : ℕ) → IsLate answer frame channel → ⊥)
+          → AllByRecursion P (stage.rows ++ stage_row stage who asked answer s seen ∷ [])
+      added answer s seen early = each-append P stage.rows _ are (other-row _ (λ number frame channel who. early frame channel), tt)
 
-      by_claim : (setup : Setup) (refusal : Option PcmError) → IfSome refusal IsBusy → AllByRecursion P (claimed_client session stage n setup x refusal).rows
-      by_claim setup (Some e) busy = one-more stage.rows _ are (answered-other _ (busy-early e busy))
-      by_claim setup None busy = by_answer setup (after_attach n stage.position stage.lobby) (attached-busy n stage.position stage.lobby)
-
-      by_setup : (setup : Option Setup) → AllByRecursion P (open_client_with session stage n setup x).rows
-      by_setup None = one-more stage.rows _ are (answered-other _ (λ frame channel is. absurd (cc)))
-      by_setup (Some setup) = by_claim setup (claim_refusal session.card.share stage.claims setup.bindings stage.position)
-          (claim-busy session.card.share stage.claims setup.bindings stage.position)
-
-  close-rows : (stage : Stage) (n : ℕ) (x : AtPort × Client) (own : Option PlaybackStream) → AllByRecursion P stage.rows → AllByRecursion P (close_client session stage n x own).rows
-  close-rows stage n x None are = one-more stage.rows _ are (answered-other _ (λ frame channel is. absurd (cc)))
-  close-rows stage n x (Some c) are = one-more stage.rows _ are (answered-other _ (λ frame channel is. absurd (cc)))
-
-  open_reader-rows : (stage : Stage) (n : ℕ) (x : AtPort × Reader) (own : Option reading.CaptureStream) → AllByRecursion P stage.rows → AllByRecursion P (open_reader session stage n x own).rows
-  open_reader-rows stage n x (Some r) are = one-more stage.rows _ are (of-other _ (λ number who. absurd (cc)))
-  open_reader-rows stage n x None are = by_setup (slice_index_or session.readers n None)
-    where
-      by_setup : (setup : Option Setup) → AllByRecursion P (open_reader_with session stage n setup x).rows
-      by_setup None = one-more stage.rows _ are (of-other _ (λ number who. absurd (cc)))
-      by_setup (Some setup) = one-more stage.rows _ are (of-other _ (λ number who. absurd (cc)))
-
-  close_reader-rows : (stage : Stage) (n : ℕ) (x : AtPort × Reader) (own : Option reading.CaptureStream) → AllByRecursion P stage.rows → AllByRecursion P (close_reader session stage n x own).rows
-  close_reader-rows stage n x None are = one-more stage.rows _ are (of-other _ (λ number who. absurd (cc)))
-  close_reader-rows stage n x (Some r) are = one-more stage.rows _ are (of-other _ (λ number who. absurd (cc)))
+      never : (frame channel : ℕ) → IsLate Done frame channel → ⊥
+      never frame channel is = absurd (cc)
 
   -- ---- the body
 
   item-rows : (stage after : Stage) (done others : List Item) (one : Item) → body ≡ done ++ one ∷ others → ItemsMay session (first_stage session) done stage → IsFirst stage.rows all
       → ListsAt after → AllByRecursion P stage.rows → ItemMay session stage one after → AllByRecursion P after.rows
-  item-rows stage after done others (item.Opens number actor.Card) body_is reached first lists are is = rw is are
-  item-rows stage after done others (item.Opens number (actor.Client n)) body_is reached first lists are is =
-      rw is (open-rows stage n (client_at session stage n) (client_at session stage n).1.own are)
-  item-rows stage after done others (item.Opens number (actor.Reader n)) body_is reached first lists are is =
-      rw is (open_reader-rows stage n (reader_at session stage n) (reader_at session stage n).1.own are)
-  item-rows stage after done others (item.Closes number actor.Card) body_is reached first lists are is = rw is are
-  item-rows stage after done others (item.Closes number (actor.Client n)) body_is reached first lists are is =
-      rw is (close-rows stage n (client_at session stage n) (client_at session stage n).1.own are)
-  item-rows stage after done others (item.Closes number (actor.Reader n)) body_is reached first lists are is =
-      rw is (close_reader-rows stage n (reader_at session stage n) (reader_at session stage n).1.own are)
+  item-rows stage after done others (item.Opens number who) body_is reached first lists are is =
+      rw is (opens-to session stage (λ after. AllByRecursion P after.rows) who (border-rows stage who op.Opens are))
+  item-rows stage after done others (item.Closes number who) body_is reached first lists are is =
+      rw is (closes-to session stage (λ after. AllByRecursion P after.rows) who (border-rows stage who op.Closes are))
   item-rows stage after done others (item.Phase lines) body_is reached first lists are may =
       let phase : IsPhaseOf lines stage = record { done = done; others = others; body_is = body_is; reached = reached; first = first } in
       let cards = card_rows (stage.phases + 1) stage.position (ops_by is_of_card lines) in
@@ -301,7 +258,7 @@ module _ (session : Session) (body : List Item) (report : Report) (late : LateLi
   items-rows stage after done [] body_is reached first lists are is = rw is are
   items-rows stage after done (one ∷ items) body_is reached first lists are (between, may, rest) =
       items-rows between after (done ++ one ∷ []) items (body_is ∙ sym (append_assoc done (one ∷ []) items))
-      (ItemsMay-more session (first_stage session) stage between done one reached may) first lists
+      (items-append session (first_stage session) stage between done (one ∷ []) reached (between, may, refl)) first lists
       (item-rows stage between done items one body_is reached (items-first session stage after (one ∷ items) all (between, may, rest) first)
       (λ number list over. lists number list (items-held session (OverAt session list number) (over-held session list number) between after items rest over)) are may) rest
 

@@ -1,16 +1,16 @@
 -- Each stage of a run of a script has the rows of the lines that are done, in the order of a report, and each has a text.
-use Rattle.run_laws.specs.Prelude.{ap, arith, length, List, Option, refl, subst, sym, ℕ, [], ◌++◌, ◌+◌, ◌<◌, ◌∙◌, ◌∷◌, ◌≡◌, ◌≤◌, append-nil, append_assoc}
-use Rattle.run_laws.specs.Prelude.{length-map, map-append, All-append, All-cons, All-head, All-map, All-nil, All-tail, All, Bool, false, map, slice_index_or}
-use Rattle.run_laws.specs.Prelude.{suc, true, Geometry, Sound, Item, Line, Op, Request, Row, CardLine, ClientLine, ReaderLine, Script, IsActor, IsItem, IsPhase}
+use Rattle.run_laws.specs.Prelude.{ap, arith, length, List, Option, refl, subst, sym, ℕ, [], ◌++◌, ◌+◌, ◌<◌, ◌∙◌, ◌∷◌, ◌≡◌, ◌≤◌, nat_tests, append-nil}
+use Rattle.run_laws.specs.Prelude.{append_assoc, length-map, map-append, All-append, All-cons, All-head, All-map, All-nil, All-tail, All, map, slice_index_or}
+use Rattle.run_laws.specs.Prelude.{suc, Geometry, Sound, Item, Line, Op, Row, CardLine, ClientLine, ReaderLine, Script, IsActor, IsItem, IsPhase}
 use Rattle.run_laws.specs.Prelude.{request_of_row, is_of_card, phases_of, played_by, item_requests, of_place, request_of, requests_from, IsRowOf, IsRunOf}
-use Rattle.run_laws.specs.Prelude.{IsTailOf, Client, segments_of, client_kinds, is_reader_stopped, is_stopped, ItemMay, ItemsMay, no_sound, PhaseMay}
-use Rattle.run_laws.specs.Prelude.{reader_kinds, reaped_client, reaped_client_if, reaped_reader, reaped_reader_if, rules_of, report_of, runs_of, with_numbers}
-use Rattle.run_laws.specs.Prelude.{AreClientOpenings, AreReaderOpenings, IsSessionOf, card_row, card_rows, is_client, is_reader, ops_by, Reader, AtPort}
-use Rattle.run_laws.specs.Prelude.{IsReached, first_stage, no_client, no_reader, Session, Setup, Stage, StagesAreReported}
-use Rattle.run_laws.proofs.Borders.{AddsRow, IsClientReportable, IsReaderReportable, CanBeReported, close-adds, open-adds}
+use Rattle.run_laws.specs.Prelude.{IsTailOf, Client, segments_of, client_kinds, ItemMay, ItemsMay, no_sound, PhaseMay, reader_kinds, reaped_client}
+use Rattle.run_laws.specs.Prelude.{reaped_reader, rules_of, report_of, runs_of, with_numbers, AreClientOpenings, AreReaderOpenings, IsSessionOf, card_row}
+use Rattle.run_laws.specs.Prelude.{card_rows, is_client, is_reader, ops_by, Reader, AtPort, IsReached, first_stage, no_client, no_reader, Session, Setup, Stage}
+use Rattle.run_laws.specs.Prelude.{StagesAreReported}
+use Rattle.run_laws.proofs.Borders.{AddsRow, AddsRows, IsClientReportable, IsReaderReportable, CanBeReported, close-adds, open-adds}
 use Rattle.run_laws.proofs.ClientCalls.{IsReportable}
 use Rattle.run_laws.proofs.Lines.{AreReported, client-reports, each-rows, reader-reports}
-use Rattle.run_laws.proofs.Requests.{asks, card_rows-requests, client_ops-requests, from_place, in_order-parts, reader_ops-requests}
+use Rattle.run_laws.proofs.Requests.{asks, card_rows-requests, from_place, in_order-parts, ops-requests}
 use Rattle.lab_lines.specs.declared.line.Actor.TheVariants as actor
 use Rattle.lab_lines.specs.declared.line.Item.TheVariants as item
 use Rattle.lab_lines.specs.declared.line.Op.TheVariants as op
@@ -22,16 +22,12 @@ pub client_openings-size : (card : CardLine) (lines : List ClientLine) (wavs : L
     → length setups ≡ length lines
 client_openings-size card [] [] [] are = refl
 client_openings-size card (line ∷ lines) (wav ∷ wavs) (setup ∷ setups) are = ap suc (client_openings-size card lines wavs setups are.1)
-client_openings-size card [] [] (setup ∷ setups) are = absurd are
-client_openings-size card [] (wav ∷ wavs) setups are = absurd are
-client_openings-size card (line ∷ lines) [] setups are = absurd are
-client_openings-size card (line ∷ lines) (wav ∷ wavs) [] are = absurd are
+client_openings-size card lines wavs setups are = absurd are
 
 pub reader_openings-size : (card : CardLine) (lines : List ReaderLine) (setups : List (Option Setup)) → AreReaderOpenings card lines setups → length setups ≡ length lines
 reader_openings-size card [] [] are = refl
 reader_openings-size card (line ∷ lines) (setup ∷ setups) are = ap suc (reader_openings-size card lines setups are.1)
-reader_openings-size card [] (setup ∷ setups) are = absurd are
-reader_openings-size card (line ∷ lines) [] are = absurd are
+reader_openings-size card lines setups are = absurd are
 
 first-reportable : (script : Script) (wavs : List Sound) (session : Session) → IsSessionOf script wavs session → CanBeReported script (first_stage session)
 first-reportable script wavs session is = record {
@@ -54,42 +50,24 @@ card_rows-of script phase position (asked ∷ more) =
     All-cons (IsRowOf script) _ _ (card_row-of script phase position asked) (card_rows-of script phase (position + played_by asked) more)
 
 reaped_client-reportable : (ring : Geometry) (x : AtPort × Client) → IsClientReportable x → IsClientReportable (reaped_client ring x)
-reaped_client-reportable ring (a, client) is = by_stop (is_stopped client.own)
-  where
-    by_stop : (stopped : Bool) → IsClientReportable (reaped_client_if stopped ring (a, client))
-    by_stop true = tt
-    by_stop false = is
+reaped_client-reportable ring x is = grind (arith, nat_tests)
 
 reaped_reader-reportable : (ring : Geometry) (x : AtPort × Reader) → IsReaderReportable x → IsReaderReportable (reaped_reader ring x)
-reaped_reader-reportable ring (a, reader) is = by_stop (is_reader_stopped reader.own)
-  where
-    by_stop : (stopped : Bool) → IsReaderReportable (reaped_reader_if stopped ring (a, reader))
-    by_stop true = tt
-    by_stop false = is
+reaped_reader-reportable ring x is = grind (arith, nat_tests)
 
 -- the requests of rows, after others, by those of three parts
 four-parts : (phase : ℕ) (before cards clients readers : List Row) (x y z : List Line)
     → map request_of_row cards ≡ map (request_of phase) x → map request_of_row clients ≡ map (request_of phase) y → map request_of_row readers ≡ map (request_of phase) z
     → map request_of_row (before ++ cards ++ clients ++ readers) ≡ map request_of_row before ++ map (request_of phase) ((x ++ y) ++ z)
-four-parts phase before cards clients readers x y z one two three =
-    map-append request_of_row (before ++ cards ++ clients) readers
-    ∙ ap (λ (rs : List Request). rs ++ map request_of_row readers)
-    (map-append request_of_row (before ++ cards) clients ∙ ap (λ (rs : List Request). rs ++ map request_of_row clients) (map-append request_of_row before cards))
-    ∙ (λ i. map request_of_row before ++ one i ++ two i ++ three i)
-    ∙ ap (λ (rs : List Request). rs ++ map (request_of phase) z) (append_assoc (map request_of_row before) (map (request_of phase) x) (map (request_of phase) y))
-    ∙ append_assoc (map request_of_row before) (map (request_of phase) x ++ map (request_of phase) y) (map (request_of phase) z)
-    ∙ ap (λ (rs : List Request). map request_of_row before ++ rs)
-    (sym (map-append (request_of phase) (x ++ y) z ∙ ap (λ (rs : List Request). rs ++ map (request_of phase) z) (map-append (request_of phase) x y)))
+four-parts phase before cards clients readers x y z one two three = simp (map-append, one, two, three, append_assoc)
 
 -- an item leaves such a stage, with the rows of its requests
-record AddsRows (script : Script) (stage : Stage) (one : Item) (after : Stage) : Type 0 where
-  pub reportable : CanBeReported script after
-  pub phases : after.phases ≡ stage.phases + length (phases_of (one ∷ []))
-  pub asked : map request_of_row after.rows ≡ map request_of_row stage.rows ++ item_requests stage.phases one
+abbrev AddsItem : Script → Stage → Item → Stage → Type 0
+AddsItem script stage one after = AddsRows script stage (length (phases_of (one ∷ []))) (item_requests stage.phases one) after
 
 phase-adds : (script : Script) (session : Session) (stage after : Stage) (lines : List Line) → length script.clients ≤ 64 → length script.readers ≤ 64
-    → IsPhase (length script.clients) (length script.readers) lines → PhaseMay session stage lines after → CanBeReported script stage → AddsRows script stage (item.Phase lines) after
-phase-adds script session stage after lines few few_readers is may reportable = subst (AddsRows script stage (item.Phase lines)) (sym may.is) (record {
+    → IsPhase (length script.clients) (length script.readers) lines → PhaseMay session stage lines after → CanBeReported script stage → AddsItem script stage (item.Phase lines) after
+phase-adds script session stage after lines few few_readers is may reportable = subst (AddsItem script stage (item.Phase lines)) (sym may.is) (record {
   reportable = record {
     all_clients = length-map may.clients (reaped_client session.ring) ∙ of_clients.count ∙ reportable.all_clients;
     all_readers = length-map may.readers (reaped_reader session.ring) ∙ of_readers.count ∙ reportable.all_readers;
@@ -100,10 +78,10 @@ phase-adds script session stage after lines few few_readers is may reportable = 
         (All-append (IsRowOf script) stage.rows cards reportable.rows (card_rows-of script phase stage.position (ops_by is_of_card lines))) of_clients.rows_are)
         of_readers.rows_are;
   };
-  phases = refl;
+  phases_are = refl;
   asked =
       four-parts phase stage.rows cards may.client_rows may.reader_rows (of_place lines 0) (from_place lines 1 (length script.clients)) (from_place lines 65 (length script.readers))
-      (card_rows-requests (length script.clients) (length script.readers) phase stage.position lines each)
+      (card_rows-requests (length script.clients) (length script.readers) phase stage.position lines each few)
       (of_clients.asked ∙ ap (λ (n : ℕ). map (request_of phase) (from_place lines 1 n)) reportable.all_clients)
       (of_readers.asked ∙ ap (λ (n : ℕ). map (request_of phase) (from_place lines 65 n)) reportable.all_readers)
       ∙ ap (λ (ls : List Line). map request_of_row stage.rows ++ map (request_of phase) ls) (sym (in_order-parts (length script.clients) (length script.readers) lines each few few_readers));
@@ -121,31 +99,23 @@ phase-adds script session stage after lines few few_readers is may reportable = 
     of_clients : AreReported script phase (λ (client : Client). IsReportable client.own) lines 1 stage.clients may.clients may.client_rows
     of_clients = each-rows script phase actor.Client (λ (client : Client). IsReportable client.own) (client_kinds session stage) (λ n. ops_by (is_client n) lines) lines
         (length script.clients) 1 (λ n within. client-reports script phase (slice_index_or session.sounds n no_sound) n within)
-        (λ n place within at. client_ops-requests (length script.clients) (length script.readers) phase n place lines each few within at)
+        (λ n place within at. ops-requests (length script.clients) (length script.readers) phase (actor.Client n) place lines each few within at)
         (rules_of session stage lines) 0 1 stage.clients may.clients may.client_rows refl (let all = reportable.all_clients in omega (arith, all)) may.clients_may reportable.clients
 
     of_readers : AreReported script phase (λ (reader : Reader). reader_calls.IsReportable reader.own) lines 65 stage.readers may.readers may.reader_rows
     of_readers = each-rows script phase actor.Reader (λ (reader : Reader). reader_calls.IsReportable reader.own) (reader_kinds stage) (λ n. ops_by (is_reader n) lines) lines
         (length script.readers) 65 (λ n within. reader-reports script phase n within)
-        (λ n place within at. reader_ops-requests (length script.clients) (length script.readers) phase n place lines each few at)
+        (λ n place within at. ops-requests (length script.clients) (length script.readers) phase (actor.Reader n) place lines each few within at)
         (rules_of session stage lines) 0 65 stage.readers may.readers may.reader_rows refl (let all = reportable.all_readers in omega (arith, all)) may.readers_may reportable.readers
 
 -- ---- a body
 
-border-adds : (script : Script) (stage after : Stage) (one : Item) (request : Request) → phases_of (one ∷ []) ≡ [] → item_requests stage.phases one ≡ request ∷ []
-    → AddsRow script stage request after → AddsRows script stage one after
-border-adds script stage after one request none is adds = record {
-  reportable = adds.reportable;
-  phases = adds.phases ∙ rw none (omega arith);
-  asked = adds.asked ∙ ap (λ (rs : List Request). map request_of_row stage.rows ++ rs) (sym is);
-}
-
 item-adds : (script : Script) (session : Session) (stage after : Stage) (one : Item) → length script.clients ≤ 64 → length script.readers ≤ 64
-    → IsItem (length script.clients) (length script.readers) one → ItemMay session stage one after → CanBeReported script stage → AddsRows script stage one after
-item-adds script session stage after (item.Opens number who) few few_readers within is reportable = border-adds script stage after (item.Opens number who) _ refl refl
-    (subst (AddsRow script stage (asks stage.phases who op.Opens)) (sym is) (open-adds script session stage who within reportable))
-item-adds script session stage after (item.Closes number who) few few_readers within is reportable = border-adds script stage after (item.Closes number who) _ refl refl
-    (subst (AddsRow script stage (asks stage.phases who op.Closes)) (sym is) (close-adds script session stage who within reportable))
+    → IsItem (length script.clients) (length script.readers) one → ItemMay session stage one after → CanBeReported script stage → AddsItem script stage one after
+item-adds script session stage after (item.Opens number who) few few_readers within is reportable =
+    subst (AddsRow script stage (asks stage.phases who op.Opens)) (sym is) (open-adds script session stage reportable who within)
+item-adds script session stage after (item.Closes number who) few few_readers within is reportable =
+    subst (AddsRow script stage (asks stage.phases who op.Closes)) (sym is) (close-adds script session stage reportable who within)
 item-adds script session stage after (item.Phase lines) few few_readers within may reportable = phase-adds script session stage after lines few few_readers within may reportable
 
 -- what items leave
@@ -165,7 +135,7 @@ items-leave script session stage after (one ∷ items) few few_readers are (betw
     let more = items-leave script session between after items few few_readers (All-tail (IsItem (length script.clients) (length script.readers)) one items are) rest first.reportable in
     record {
       reportable = more.reportable;
-      asked = more.asked ∙ (λ i. first.asked i ++ requests_from (first.phases i) items)
+      asked = more.asked ∙ (λ i. first.asked i ++ requests_from (first.phases_are i) items)
           ∙ append_assoc (map request_of_row stage.rows) (item_requests stage.phases one) (requests_from (stage.phases + length (phases_of (one ∷ []))) items);
     }
 

@@ -1,32 +1,20 @@
 -- The samples that a run leaves are whole frames, no more than a script may play.
-use Rattle.run_laws.specs.Prelude.{ap, arith, length, List, mul-le-mul, None, Option, refl, Some, subst, sym, ℕ, [], ◌*◌, ◌+◌, ◌<◌, ◌∙◌, ◌∷◌, ◌≡◌, ◌≤◌}
-use Rattle.run_laws.specs.Prelude.{nat_tests, length-map-range_with_len, length-range_with_len, sum_by-cons, get_or_from_slice_get, slice_get_within, Bool, Err}
-use Rattle.run_laws.specs.Prelude.{false, if◌then◌else◌, nat_lt, Ok, slice_get, slice_index_or, suc, take, true, unwrap_or, zero, ℤ, ◌%◌, ◌==◌, identity, Sound}
-use Rattle.run_laws.specs.Prelude.{Item, Line, CardLine, ReaderLine, Script, IsBoundWhere, IsCardLine, IsReaderLine, first_frame, frames_played, phases_of}
-use Rattle.run_laws.specs.Prelude.{all_segments, bindings_of, captured_sample, entries_of, mixed_at, outcome_of, report_of, AreReaderOpenings, IsReaderOpening}
-use Rattle.run_laws.specs.Prelude.{read_by, Reader, IsReached, no_reader, reader_at, Session, Setup, Stage, recorded_from-at, recorded_from-size}
-use Rattle.std.proofs.Math.Nat.{mul-mod_left}
-use Rattle.snd_base.specs.declared.errors.Why.TheVariants.{BindingsEmpty, BindingsTooMany}
-use Rattle.bindings.specs.Answers.{answer_of, entry_defects, or_first}
+use Rattle.run_laws.specs.Prelude.{ap, arith, length, List, mul-le-mul, None, Option, Some, subst, sym, ℕ, [], ◌*◌, ◌+◌, ◌<◌, ◌∙◌, ◌≡◌, ◌≤◌, mul-mod_left}
+use Rattle.run_laws.specs.Prelude.{nat_tests, length-map-range_with_len, length-range_with_len, sum_by-take-le, get_or_from_slice_get, slice_get_within, Ok}
+use Rattle.run_laws.specs.Prelude.{slice_get, slice_index_or, take, unwrap_or, ℤ, ◌%◌, identity, Sound, Item, CardLine, ReaderLine, Script, IsBoundWhere}
+use Rattle.run_laws.specs.Prelude.{IsCardLine, IsReaderLine, first_frame, frames_played, phases_of, all_segments, bindings_of, captured_sample, entries_of}
+use Rattle.run_laws.specs.Prelude.{mixed_at, outcome_of, report_of, IsReaderOpening, read_by, Reader, IsReached, no_reader, reader_at, Session, Setup, Stage}
+use Rattle.run_laws.specs.Prelude.{recorded_from-at, recorded_from-size}
+use Rattle.bindings.specs.Answers.{answer_of}
 use Rattle.lab_run.proofs.ScriptWords.{stages-of_scripts}
 use Rattle.run_laws.specs.Sizes.{AreWholeFrames, IsPlayed, IsRecorded, StagesHaveSizes}
 use Rattle.run_laws.proofs.Captured.{reader_at-within, run-within}
 use Rattle.run_laws.proofs.ReaderFrames.{frames-few}
-use Rattle.run_laws.proofs.Recorded.{samples-count}
+use Rattle.run_laws.proofs.Recorded.{opening-at, samples-count}
 use Rattle.run_laws.proofs.RowStages.{reached-reportable}
 use Rattle.lab_lines.specs.Script as scripts
 
 -- ---- the frames that were played
-
--- so many phases play no more frames than all
-frames_played-take : (n : ℕ) (phases : List (List Line)) → frames_played (take n phases) ≤ frames_played phases
-frames_played-take zero phases = omega arith
-frames_played-take (suc n) [] = omega arith
-frames_played-take (suc n) (lines ∷ phases) =
-    let rest = frames_played-take n phases in
-    let few : frames_played (take (suc n) (lines ∷ phases)) ≡ scripts.played_in lines + frames_played (take n phases) = sum_by-cons scripts.played_in lines (take n phases) in
-    let all : frames_played (lines ∷ phases) ≡ scripts.played_in lines + frames_played phases = sum_by-cons scripts.played_in lines phases in
-    omega (arith, rest, few, all)
 
 reached-few : (script : Script) (wavs : List Sound) (session : Session) (done others : List Item) (stage : Stage) → IsReached script wavs session done others stage
     → (report_of session stage).frames ≤ 4194304
@@ -34,7 +22,7 @@ reached-few script wavs session done others stage is =
     let after = stages-of_scripts script wavs session done others stage is in
     let at : stage.position ≡ first_frame script.card + frames_played (take stage.phases (phases_of script.body)) = after.position in
     let first : first_frame session.card ≡ first_frame script.card = ap first_frame is.session_is.card in
-    let few : frames_played (take stage.phases (phases_of script.body)) ≤ frames_played (phases_of script.body) = frames_played-take stage.phases (phases_of script.body) in
+    let few : frames_played (take stage.phases (phases_of script.body)) ≤ frames_played (phases_of script.body) = sum_by-take-le scripts.played_in (phases_of script.body) stage.phases in
     let most : frames_played (phases_of script.body) ≤ 4194304 = is.script_is.frames in
     omega (arith, at, first, few, most)
 
@@ -66,14 +54,6 @@ played-frames script wavs session capture done others stage is =
 
 -- ---- the frames that were read
 
--- the opening of the reader of a number
-opening-at : (card : CardLine) (lines : List ReaderLine) (setups : List (Option Setup)) (n : ℕ) (d : ReaderLine) → AreReaderOpenings card lines setups → n < length lines
-    → IsReaderOpening card (slice_index_or lines n d) (slice_index_or setups n None)
-opening-at card [] setups n d are within = absurd (omega (arith, within))
-opening-at card (line ∷ lines) [] n d are within = absurd are
-opening-at card (line ∷ lines) (setup ∷ setups) zero d are within = are.0
-opening-at card (line ∷ lines) (setup ∷ setups) (suc n) d are within = opening-at card lines setups n d are.1 (omega (arith, within))
-
 -- an open reader's bindings are those of its line
 bound-size : (card : CardLine) (line : ReaderLine) (setup : Option Setup) (frames : ℕ) → IsReaderOpening card line setup
     → (m : ℕ) × (m ≤ frames) × (frames * length (bindings_of setup) ≡ m * length (read_by card line))
@@ -82,16 +62,9 @@ bound-size card line (Some setup) frames is = (frames, omega arith, ap (λ (bind
 
 -- bindings that are read bind 1 to 8 channels
 read-some : (list : List ℕ) (channels : ℕ) → answer_of list channels ≡ Ok list → (1 ≤ length list) × (length list ≤ 8)
-read-some list channels is = by_tests (length list == 0) (nat_lt 8 (length list)) refl refl is
-  where
-    by_tests : (none many : Bool) → (length list == 0) ≡ none → nat_lt 8 (length list) ≡ many
-        → (if none then Err BindingsEmpty else (if many then Err BindingsTooMany else or_first list (entry_defects list channels))) ≡ Ok list
-        → (1 ≤ length list) × (length list ≤ 8)
-    by_tests true many none_is many_is is = absurd (cc)
-    by_tests false true none_is many_is is = absurd (cc)
-    by_tests false false none_is many_is is = (grind (arith, nat_tests, none_is), grind (arith, nat_tests, many_is))
+read-some list channels is = (grind (arith, nat_tests, is), grind (arith, nat_tests, is))
 
-line-channels : (card : CardLine) (line : ReaderLine) → IsCardLine card → IsReaderLine card line → (1 ≤ length (read_by card line)) × (length (read_by card line) ≤ 8)
+pub line-channels : (card : CardLine) (line : ReaderLine) → IsCardLine card → IsReaderLine card line → (1 ≤ length (read_by card line)) × (length (read_by card line) ≤ 8)
 line-channels card line is line_is = by_bindings line.bindings line_is.bindings
   where
     by_bindings : (given : Option (List ℕ)) → IsBoundWhere card.channels given
@@ -115,9 +88,7 @@ recorded-frames script wavs session capture done others stage is number line the
     let channels = line-channels script.card line is.script_is.card (subst (IsReaderLine script.card) is_line (is.script_is.each_reader number line within)) in
     let reader : Reader = (reader_at session stage number).1 in
     let setup : Option Setup = slice_index_or session.readers number None in
-    let opening : IsReaderOpening script.card line setup =
-    subst (λ (l : ReaderLine). IsReaderOpening script.card l setup) is_line
-    (opening-at script.card script.readers session.readers number line is.session_is.readers within) in
+    let opening : IsReaderOpening script.card line setup = opening-at script.card script.readers session.readers number line is.session_is.readers there in
     let inside = reader_at-within (first_frame session.card) session stage number (run-within session stage done is.may) in
     let below : first_frame session.card + length reader.frames ≤ stage.position =
     frames-few (first_frame session.card) stage.position reader inside.1 in

@@ -1,12 +1,13 @@
 -- A stretch that ended by an xrun stays as it is until the client is prepared or closed: the report lists its segment.
-use Rattle.run_laws.specs.Prelude.{ap, inl, inr, List, None, Option, refl, Some, subst, sym, ℕ, [], ◌++◌, ◌∙◌, ◌∷◌, ◌≡◌, ◌⊎◌, false≢true, append-nil}
+use Rattle.run_laws.specs.Prelude.{ap, arith, inl, inr, List, None, Option, refl, Some, subst, sym, ℕ, [], ◌++◌, ◌∙◌, ◌∷◌, ◌≡◌, ◌⊎◌, nat_tests, append-nil}
 use Rattle.run_laws.specs.Prelude.{append_assoc, Bool, Err, false, if◌then◌else◌, nat_eq, Ok, Result, true, ◌&&◌, PcmError, Segment, Call, State, Xrun, next_of}
 use Rattle.run_laws.specs.Prelude.{Playback, is_moving, nothing_found, refusal_in, refusal_of, Marks, Course, ends, ◌>>=◌, Gives, Gives-any, Gives-map}
-use Rattle.run_laws.specs.Prelude.{PlaybackStream, Stretch, after_drop, after_prepare, Answered, is_paused, is_prepared, admitted_by, drain_course, if_admitted}
-use Rattle.run_laws.specs.Prelude.{Sound, Op, Answer, Row, after_call, call_answer, call_of, Client, client_kind, count_answer, done_answer, ended_by}
-use Rattle.run_laws.specs.Prelude.{present_of, segments_of, stretch_of, LineMay, LinesMay, AtPort, Rules, some-none, client-line}
+use Rattle.run_laws.specs.Prelude.{PlaybackStream, Stretch, after_drop, after_prepare, Answered, is_paused, is_prepared, admitted_by, if_admitted, Sound, Op}
+use Rattle.run_laws.specs.Prelude.{Answer, Done, Row, after_call, call_answer, call_of, Client, client_kind, count_answer, done_answer, ended_by, present_of}
+use Rattle.run_laws.specs.Prelude.{segments_of, stretch_of, LineMay, LinesMay, AtPort, Rules, client-line}
 use Rattle.pcm_states.specs.declared.states.State.TheVariants.{Setup}
 use Rattle.run_laws.proofs.OnwardLines.{InOpen, unpaused-ends}
+use Rattle.run_laws.proofs.Stages.{lines-last}
 use Rattle.snd_base.specs.declared.errors.PcmError.TheVariants as error
 use Rattle.pcm_states.specs.declared.calls.Call.TheVariants as call
 use Rattle.lab_lines.specs.declared.line.Op.TheVariants as op
@@ -27,25 +28,10 @@ IsRefused other = false
 
 refused-by : (stopped : Bool) (s : State) (asked : Call) → is_sealed s ≡ true → IsRefused asked ≡ true
     → (if stopped then Some error.Stopped else refusal_in (next_of s asked (nothing_found Playback)).answer) ≡ None → ⊥
-refused-by true s asked sealed is none = some-none none
-refused-by false Xrun call.Start sealed is none = some-none none
-refused-by false Xrun call.Transfer sealed is none = some-none none
-refused-by false Xrun call.Sync sealed is none = some-none none
-refused-by false Xrun call.Pause sealed is none = some-none none
-refused-by false Xrun call.Resume sealed is none = some-none none
-refused-by false Setup call.Start sealed is none = some-none none
-refused-by false Setup call.Transfer sealed is none = some-none none
-refused-by false Setup call.Sync sealed is none = some-none none
-refused-by false Setup call.Pause sealed is none = some-none none
-refused-by false Setup call.Resume sealed is none = some-none none
-refused-by false Xrun other sealed is none = absurd (false≢true is)
-refused-by false Setup other sealed is none = absurd (false≢true is)
-refused-by false other asked sealed is none = absurd (false≢true sealed)
+refused-by stopped other asked sealed is none = grind (arith, nat_tests)
 
 sealed-still : (s : State) → is_sealed s ≡ true → (is_moving s ≡ false) × (is_prepared s ≡ false) × (is_paused s ≡ false)
-sealed-still Xrun sealed = (refl, refl, refl)
-sealed-still Setup sealed = (refl, refl, refl)
-sealed-still other sealed = absurd (false≢true sealed)
+sealed-still other sealed = grind (arith, nat_tests)
 
 -- the segment of a stretch
 abbrev segment_in : Stretch → List Segment
@@ -64,27 +50,14 @@ module _ (c : PlaybackStream) (sealed : is_sealed c.status.state ≡ true) where
   refused : {X : Type 0} (answer : Result X PcmError → Answer) (asked : Op) (called : Call) (m : Course (Answered X)) → IsRefused called ≡ true
       → ((d : PlaybackStream) (given : Answer) → ended_by asked given c d ≡ []) → Gives (Leaves c asked) (call_answer answer (if_admitted c called m))
   unfolding ◌>>=◌
-  refused answer asked called m is_refused none = by_refusal (refusal_of Playback c.status called) refl
-    where
-      by_refusal : (refusal : Option PcmError) → refusal_of Playback c.status called ≡ refusal → Gives (Leaves c asked) (call_answer answer (admitted_by refusal c m))
-      by_refusal None is = absurd (refused-by c.status.stopped c.status.state called sealed is_refused is)
-      by_refusal (Some e) is = inl (none c (answer (Err e)), refl, sealed)
+  refused answer asked called m is_refused none = grind (arith, nat_tests)
 
-  drop-leaves : (refusal : Option PcmError) → Gives (Leaves c op.Drop) (call_answer done_answer (admitted_by refusal c (ends (after_drop c, Ok tt))))
+  -- a call that is done at once
+  at-once : (asked : Op) (refusal : Option PcmError) (d : PlaybackStream) → ((e : PcmError) → ended_by asked (done_answer (Err e)) c c ≡ []) → Leaves c asked (d, Done)
+      → Gives (Leaves c asked) (call_answer done_answer (admitted_by refusal c (ends (d, Ok tt))))
   unfolding ◌>>=◌
-  drop-leaves None = inl (refl, refl, refl)
-  drop-leaves (Some e) = inl (refl, refl, sealed)
-
-  prepare-leaves : (refusal : Option PcmError) → Gives (Leaves c op.Prepare) (call_answer done_answer (admitted_by refusal c (ends (after_prepare c, Ok tt))))
-  unfolding ◌>>=◌
-  prepare-leaves None = inr refl
-  prepare-leaves (Some e) = inl (refl, refl, sealed)
-
-  drain-leaves : (marks : Marks) (refusal : Option PcmError) → Gives (Leaves c op.Drain) (call_answer done_answer (admitted_by refusal c (drain_course c [] marks.cursor)))
-  unfolding ◌>>=◌
-  drain-leaves marks None =
-      let still = sealed-still c.status.state sealed in rw still.0 (rw still.1 (inl (refl, refl, refl)))
-  drain-leaves marks (Some e) = inl (refl, refl, sealed)
+  at-once asked None d none leaves = leaves
+  at-once asked (Some e) d none leaves = inl (none e, refl, sealed)
 
   call-leaves : (wav : Sound) (marks : Marks) (asked : Op) → Gives (Leaves c asked) (call_of wav marks c asked)
   call-leaves wav marks (op.Write n) = refused count_answer (op.Write n) call.Transfer _ refl (λ d given. refl)
@@ -92,9 +65,10 @@ module _ (c : PlaybackStream) (sealed : is_sealed c.status.state ≡ true) where
   call-leaves wav marks op.Sync = refused done_answer op.Sync call.Sync _ refl (λ d given. refl)
   call-leaves wav marks op.Avail = refused count_answer op.Avail call.Sync _ refl (λ d given. refl)
   call-leaves wav marks op.Delay = refused count_answer op.Delay call.Sync _ refl (λ d given. refl)
-  call-leaves wav marks op.Drain = drain-leaves marks (refusal_of Playback c.status call.Drain)
-  call-leaves wav marks op.Drop = drop-leaves (refusal_of Playback c.status call.Drop)
-  call-leaves wav marks op.Prepare = prepare-leaves (refusal_of Playback c.status call.Prepare)
+  call-leaves wav marks op.Drain = let still = sealed-still c.status.state sealed in
+      rw still.0 (rw still.1 (at-once op.Drain (refusal_of Playback c.status call.Drain) (after_drop c) (λ e. refl) (inl (refl, refl, refl))))
+  call-leaves wav marks op.Drop = at-once op.Drop (refusal_of Playback c.status call.Drop) (after_drop c) (λ e. refl) (inl (refl, refl, refl))
+  call-leaves wav marks op.Prepare = at-once op.Prepare (refusal_of Playback c.status call.Prepare) (after_prepare c) (λ e. refl) (inr refl)
   call-leaves wav marks op.Pause = refused done_answer op.Pause call.Pause _ refl (λ d given. refl)
   call-leaves wav marks op.Resume = refused done_answer op.Resume call.Resume _ refl
       (λ d given. unpaused-ends given c d (sealed-still c.status.state sealed).2)
@@ -125,40 +99,35 @@ after-leaves client c d asked answer own (inl (none, same, sealed)) = rw own (rw
 )))
 after-leaves client c d asked answer own (inr is) = rw own (rw is (inl ([], sym (append-nil (client.ended ++ stretch_of c)))))
 
--- a line of a client whose stretch is sealed
-sealed-line : (rules : Rules) (phase : ℕ) (wav : Sound) (number : ℕ) (a b : AtPort) (client after : Client) (asked : Op) (answer : Answer)
-    → InOpen client.own (λ d. is_sealed d.status.state ≡ true) → LineMay (client_kind phase wav number) rules (a, client) asked (b, after) answer → Over (segments_of client) after
-sealed-line rules phase wav number a b client after asked answer sealed may =
-    client-line (λ (x : Client × Answer). Over (segments_of client) x.0) rules phase wav number a b client after asked answer
-    (λ none. inr (refl, sealed)) (λ c own. inr (refl, sealed)) (λ c own. inr (refl, sealed))
-    (λ c own marks. Gives-map (Leaves c asked) (λ (x : PlaybackStream × Answer). Over (segments_of client) (after_call client c asked x).0) (call_of wav marks c asked)
-    (call-leaves c (subst (λ (o : Option PlaybackStream). InOpen o (λ d. is_sealed d.status.state ≡ true)) own sealed) wav marks asked)
-    (λ done leaves. after-leaves client c done.0 asked done.1 own leaves)) may
+-- ---- a line
 
--- no line takes back what ended
-ended-line : (rules : Rules) (phase : ℕ) (wav : Sound) (number : ℕ) (a b : AtPort) (client after : Client) (asked : Op) (answer : Answer)
-    → LineMay (client_kind phase wav number) rules (a, client) asked (b, after) answer → IsStart client.ended after.ended
-ended-line rules phase wav number a b client after asked answer may =
-    client-line (λ (x : Client × Answer). IsStart client.ended x.0.ended) rules phase wav number a b client after asked answer (λ none. same) (λ c own. same) (λ c own. same)
-    (λ c own marks. Gives-any (λ (x : PlaybackStream × Answer). IsStart client.ended (after_call client c asked x).0.ended) (call_of wav marks c asked)
-    (λ x. (ended_by asked x.1 c x.0, refl))) may
-  where
-    same : IsStart client.ended client.ended
-    same = ([], sym (append-nil client.ended))
+module _ (rules : Rules) (phase : ℕ) (wav : Sound) (number : ℕ) (a b : AtPort) (client after : Client) (asked : Op) (answer : Answer)
+    (may : LineMay (client_kind phase wav number) rules (a, client) asked (b, after) answer) where
+  -- of a client whose stretch is sealed
+  sealed-line : InOpen client.own (λ d. is_sealed d.status.state ≡ true) → Over (segments_of client) after
+  sealed-line sealed = client-line (λ (x : Client × Answer). Over (segments_of client) x.0) rules phase wav number a b client after asked answer
+      (λ none. inr (refl, sealed)) (λ c own. inr (refl, sealed)) (λ c own. inr (refl, sealed))
+      (λ c own marks. Gives-map (Leaves c asked) (λ (x : PlaybackStream × Answer). Over (segments_of client) (after_call client c asked x).0) (call_of wav marks c asked)
+      (call-leaves c (subst (λ (o : Option PlaybackStream). InOpen o (λ d. is_sealed d.status.state ≡ true)) own sealed) wav marks asked)
+      (λ done leaves. after-leaves client c done.0 asked done.1 own leaves)) may
 
-pub over-line : (list : List Segment) (rules : Rules) (phase : ℕ) (wav : Sound) (number : ℕ) (a b : AtPort) (client after : Client) (asked : Op) (answer : Answer)
-    → Over list client → LineMay (client_kind phase wav number) rules (a, client) asked (b, after) answer → Over list after
-over-line list rules phase wav number a b client after asked answer (inl (more, is)) may =
-    let grows = ended-line rules phase wav number a b client after asked answer may in
-    inl (more ++ grows.0, grows.1 ∙ ap (λ l. l ++ grows.0) is ∙ append_assoc list more grows.0)
-over-line list rules phase wav number a b client after asked answer (inr (is, sealed)) may =
-    subst (λ l. Over l after) is (sealed-line rules phase wav number a b client after asked answer sealed may)
+  -- none takes back what ended
+  ended-line : IsStart client.ended after.ended
+  ended-line = client-line (λ (x : Client × Answer). IsStart client.ended x.0.ended) rules phase wav number a b client after asked answer (λ none. same) (λ c own. same) (λ c own. same)
+      (λ c own marks. Gives-any (λ (x : PlaybackStream × Answer). IsStart client.ended (after_call client c asked x).0.ended) (call_of wav marks c asked)
+      (λ x. (ended_by asked x.1 c x.0, refl))) may
+    where
+      same : IsStart client.ended client.ended
+      same = ([], sym (append-nil client.ended))
+
+  pub over-line : (list : List Segment) → Over list client → Over list after
+  over-line list (inl (more, is)) = let grows = ended-line in inl (more ++ grows.0, grows.1 ∙ ap (λ l. l ++ grows.0) is ∙ append_assoc list more grows.0)
+  over-line list (inr (is, sealed)) = subst (λ l. Over l after) is (sealed-line sealed)
 
 pub over-lines : (list : List Segment) (rules : Rules) (phase : ℕ) (wav : Sound) (number : ℕ) (x y : AtPort × Client) (ops : List Op) (rows : List Row)
     → Over list x.1 → LinesMay (client_kind phase wav number) rules x ops y rows → Over list y.1
-over-lines list rules phase wav number x y [] rows over (same, none) = subst (λ (z : AtPort × Client). Over list z.1) (sym same) over
-over-lines list rules phase wav number (a, client) y (asked ∷ ops) rows over ((b, between), answer, others, may, rest, are) =
-    over-lines list rules phase wav number (b, between) y ops others (over-line list rules phase wav number a b client between asked answer over may) rest
+over-lines list rules phase wav number x y ops rows over may = lines-last (client_kind phase wav number) rules (λ z. Over list z.1)
+    (λ z between asked answer one so. over-line rules phase wav number z.0 between.0 z.1 between.1 asked answer one list so) x y ops rows may over
 
 -- ---- what an opening and a closing make of it
 

@@ -1,14 +1,14 @@
 -- The frames of a reader over a whole body: in each of its stretches they are one slice.
-use Rattle.run_laws.specs.Prelude.{ap, arith, length, List, None, Option, refl, Some, subst, sym, ℕ, [], ◌++◌, ◌+◌, ◌<◌, ◌∙◌, ◌∷◌, ◌≡◌, append-nil}
-use Rattle.run_laws.specs.Prelude.{get_or-set_same, flat_map, range_with_len, Bool, false, map, nat_eq, slice_index_or, suc, true, zero, Geometry}
-use Rattle.run_laws.specs.Prelude.{CaptureStream, Sound, Actor, Item, Op, Row, is_of_card, client_kinds, is_reader_stopped, ItemMay, ItemsMay, reader_kinds}
-use Rattle.run_laws.specs.Prelude.{reaped_reader, reaped_reader_if, rules_of, bindings_of, captured_sample, Outcome, recorded_from, runs_of, with_numbers}
-use Rattle.run_laws.specs.Prelude.{Alone, rows_by, card_rows, is_client, is_reader, ops_by, Reader, AtPort, Rules, after_close, after_open, close_reader}
-use Rattle.run_laws.specs.Prelude.{first_stage, no_reader, open_reader, open_reader_with, reader_at, Session, Setup, Stage, AreSlices, ends_by_row}
-use Rattle.run_laws.specs.Prelude.{goes_on_after, got_by, ReadersReadInSlices, ReadsInSlices, close-by, open-by}
-use Rattle.run_laws.proofs.OwnActors.{LeavesOthers, both, view, view_of}
-use Rattle.run_laws.proofs.OwnLines.{EachAt, EachBy, MayOf, cards-other, constant-at, each-at, each-other, each-size, map-at, map-size, may-each, may-of, numbered-at, own-row, phase-rows}
-use Rattle.run_laws.proofs.OwnReaders.{client_row-other, is-own, own-number, reader-border, reader_own, reader_with, row-numbered, runs-members}
+use Rattle.run_laws.specs.Prelude.{ap, arith, length, List, None, Option, refl, Some, subst, sym, ℕ, [], ◌++◌, ◌+◌, ◌<◌, ◌∙◌, ◌∷◌, ◌≡◌, get_or-map, nat_tests}
+use Rattle.run_laws.specs.Prelude.{append-nil, get_or-set_same, length-map, range_with_len, Bool, false, nat_eq, slice_index_or, true, Geometry, CaptureStream}
+use Rattle.run_laws.specs.Prelude.{Sound, Actor, Item, Op, Row, is_of_card, client_kinds, ItemMay, ItemsMay, reader_kinds, reaped_reader, rules_of, Outcome}
+use Rattle.run_laws.specs.Prelude.{runs_of, with_numbers, Alone, rows_by, card_rows, is_client, is_reader, ops_by, Reader, AtPort, Rules, after_close}
+use Rattle.run_laws.specs.Prelude.{after_open, close_reader, first_stage, no_reader, open_reader, open_reader_with, reader_at, Session, Setup, Stage, AreSlices}
+use Rattle.run_laws.specs.Prelude.{ends_by_row, goes_on_after, got_by, ReadersReadInSlices, ReadsInSlices, close-by, open-by, recorded_from-at}
+use Rattle.run_laws.proofs.Numbered.{numbered-at}
+use Rattle.run_laws.proofs.OwnActors.{LeavesOthers, client_row-is, reader_row-is, view, view_of}
+use Rattle.run_laws.proofs.OwnLines.{EachAt, EachBy, MayOf, cards-other, each-at, each-other, each-size, may-each, may-of, own-row, phase-rows}
+use Rattle.run_laws.proofs.OwnReaders.{is-own, own-number, reader-border, reader_own, reader_with, runs-members}
 use Rattle.run_laws.proofs.SliceLines.{AreSlices-append, first-of, IsGoing, lines-get, LinesGet}
 use Rattle.lab_lines.specs.declared.line.Item.TheVariants as item
 
@@ -22,11 +22,7 @@ record IsRead (view : Alone Reader) : Type 0 where
 
 read-by : (view : Alone Reader) (rows : List Row) (x : AtPort × Reader) (at : Option ℕ) → view.rows ≡ rows → view.actor ≡ x → AreSlices None rows x.1.frames at → IsGoing at x.1.own
     → IsRead view
-read-by view rows x at rows_are is slices goes = record {
-  at = at;
-  slices = subst (λ (y : AtPort × Reader). AreSlices None view.rows y.1.frames at) (sym is) (subst (λ r. AreSlices None r x.1.frames at) (sym rows_are) slices);
-  goes = subst (λ (y : AtPort × Reader). IsGoing at y.1.own) (sym is) goes;
-}
+read-by view rows x at rows_are is slices goes = grind (arith, nat_tests)
 
 -- a row that got nothing
 with-row : (rows : List Row) (frames : List ℕ) (at after : Option ℕ) (row : Row) → got_by row.op row.answer ≡ 0 → after ≡ goes_on_after (ends_by_row row.op row.answer) at (first-of at).0 0
@@ -70,25 +66,11 @@ close-read session n stage a None frames there is read =
 close-read session n stage a (Some r) frames there is read =
     read-by _ _ _ None (own-row (is_reader n) stage.rows _ (is-own n)) (get_or-set_same stage.readers n _ _ there) (with-row _ frames read.at None _ refl refl read.slices) tt
 
--- a reader that was stopped has no stretch
 reaped-goes : (ring : Geometry) (at : Option ℕ) (x : AtPort × Reader) → IsGoing at x.1.own → IsGoing at (reaped_reader ring x).1.own
-reaped-goes ring None x goes = tt
-reaped-goes ring (Some next) (a, reader) goes = by_own reader.own refl goes
-  where
-    by_own : (own : Option CaptureStream) → reader.own ≡ own → IsGoing (Some next) own → IsGoing (Some next) (reaped_reader_if (is_reader_stopped own) ring (a, reader)).1.own
-    by_own None is goes = absurd goes
-    by_own (Some r) is goes = by_stopped r.status.stopped refl
-      where
-        by_stopped : (b : Bool) → r.status.stopped ≡ b → IsGoing (Some next) (reaped_reader_if b ring (a, reader)).1.own
-        by_stopped true stops = absurd (both stops goes.1.0)
-        by_stopped false stops = subst (λ o. IsGoing (Some next) o) (sym is) goes
+reaped-goes ring at x goes = grind (arith, nat_tests)
 
-pub reaped-frames : (ring : Geometry) (x : AtPort × Reader) → (reaped_reader ring x).1.frames ≡ x.1.frames
-reaped-frames ring (a, reader) = by_test (is_reader_stopped reader.own)
-  where
-    by_test : (b : Bool) → (reaped_reader_if b ring (a, reader)).1.frames ≡ reader.frames
-    by_test true = refl
-    by_test false = refl
+reaped-frames : (ring : Geometry) (x : AtPort × Reader) → (reaped_reader ring x).1.frames ≡ x.1.frames
+reaped-frames ring x = grind (arith, nat_tests)
 
 -- ---- the items
 
@@ -113,11 +95,12 @@ item-over session n stage after (item.Closes number who) there read is = rw is (
     (λ mine. subst (λ k. IsRead (view (reader_own session n) (after_close session stage k))) (own-number n who mine)
     (close-read session n stage (reader_at session stage n).0 (reader_at session stage n).1.own (reader_at session stage n).1.frames there refl read)) there read)
 item-over session n stage after (item.Phase lines) there read may = rw may.is (record {
-  read = read-by _ (rows_by (is_reader n) stage.rows ++ own.own) (reaped_reader session.ring y) gets.next rows reaped
-      (subst (λ f. AreSlices None (rows_by (is_reader n) stage.rows ++ own.own) f gets.next) (sym frames)
+  read = read-by _ (rows_by (is_reader n) stage.rows ++ own.own) (reaped_reader session.ring y) gets.next rows
+      (get_or-map (reaped_reader session.ring) may.readers n (no_reader session.ring))
+      (subst (λ f. AreSlices None (rows_by (is_reader n) stage.rows ++ own.own) f gets.next) (sym (reaped-frames session.ring y ∙ gets.frames))
       (AreSlices-append None read.at gets.next (rows_by (is_reader n) stage.rows) own.own (reader_at session stage n).1.frames gets.got read.slices gets.slices))
       (reaped-goes session.ring gets.next y gets.goes);
-  there = rw (map-size (reaped_reader session.ring) may.readers ∙ size) there;
+  there = rw (length-map may.readers (reaped_reader session.ring) ∙ each-size (MayOf (reader_kinds stage) rules ops) 0 stage.readers may.readers may.reader_rows each) there;
 })
   where
     rules : Rules
@@ -131,11 +114,8 @@ item-over session n stage after (item.Phase lines) there read may = rw may.is (r
 
     own : EachAt (is_reader n) n (MayOf (reader_kinds stage) rules ops) n stage.readers may.readers may.reader_rows (no_reader session.ring)
     own = each-at (is_reader n) n (MayOf (reader_kinds stage) rules ops)
-        (may-of (is_reader n) (λ m. nat_eq m n) (reader_kinds stage) rules ops (λ m asked reader answer. row-numbered n _ m asked reader.own answer))
+        (may-of (is_reader n) (λ m. nat_eq m n) (reader_kinds stage) rules ops (λ m asked reader answer. ap (is_reader n) (reader_row-is _ m asked reader.own answer).0))
         0 n stage.readers may.readers may.reader_rows _ (omega arith) there each
-
-    size : length may.readers ≡ length stage.readers
-    size = each-size (MayOf (reader_kinds stage) rules ops) 0 stage.readers may.readers may.reader_rows each
 
     y : AtPort × Reader
     y = slice_index_or may.readers n (no_reader session.ring)
@@ -143,15 +123,9 @@ item-over session n stage after (item.Phase lines) there read may = rw may.is (r
     gets : LinesGet read.at (reader_at session stage n).1 y.1 own.own
     gets = lines-get rules (stage.phases + 1) n (reader_at session stage n) y (ops_by (is_reader n) lines) own.own read.at read.goes own.does
 
-    frames : (reaped_reader session.ring y).1.frames ≡ (reader_at session stage n).1.frames ++ gets.got
-    frames = reaped-frames session.ring y ∙ gets.frames
-
-    reaped : slice_index_or (map (reaped_reader session.ring) may.readers) n (no_reader session.ring) ≡ reaped_reader session.ring y
-    reaped = map-at (reaped_reader session.ring) may.readers n (no_reader session.ring) (no_reader session.ring) (rw size there)
-
     none : rows_by (is_reader n) may.client_rows ≡ []
     none = each-other (is_reader n) (λ m. false) (MayOf (client_kinds session stage) rules (λ m. ops_by (is_client m) lines))
-        (may-of (is_reader n) (λ m. false) (client_kinds session stage) rules (λ m. ops_by (is_client m) lines) (λ m asked client answer. client_row-other n _ m asked client.own answer))
+        (may-of (is_reader n) (λ m. false) (client_kinds session stage) rules (λ m. ops_by (is_client m) lines) (λ m asked client answer. ap (is_reader n) (client_row-is _ m asked client.own answer).0))
         0 stage.clients may.clients may.client_rows (λ m low. refl)
         (may-each (client_kinds session stage) rules (λ m. ops_by (is_client m) lines) 0 stage.clients may.clients may.client_rows may.clients_may)
 
@@ -167,31 +141,17 @@ items-over session n stage after (one ∷ items) there read (between, may, rest)
     let more = items-over session n between after items step.there step.read rest in
     record { read = more.read; there = more.there }
 
-recorded-at : (session : Session) (capture : Option Sound) (n number i : ℕ) (readers : List (AtPort × Reader)) (d : AtPort × Reader) → number + i ≡ n → i < length readers
-    → slice_index_or (recorded_from session capture number readers) i []
-    ≡ flat_map (λ frame. map (captured_sample session capture frame) (bindings_of (slice_index_or session.readers n None))) (slice_index_or readers i d).1.frames
-recorded-at session capture n number i [] d at low = absurd (omega (arith, low))
-recorded-at session capture n number zero (x ∷ readers) d at low =
-    ap (λ m. flat_map (λ frame. map (captured_sample session capture frame) (bindings_of (slice_index_or session.readers m None))) x.1.frames) here
-  where
-    here : number ≡ n
-    here = omega (arith, at)
-recorded-at session capture n number (suc i) (x ∷ readers) d at low = recorded-at session capture n (number + 1) i readers d (omega (arith, at)) (omega (arith, low))
-
 pub readers-read_in_slices : (session : Session) (capture : Option Sound) (body : List Item) → ReadersReadInSlices session capture body
 readers-read_in_slices session capture body client_stops reader_stops outcome run n there =
     subst (λ (o : Outcome). ReadsInSlices session capture o n) (sym run.is) (record {
       frames = (reader_at session run.end n).1.frames;
       runs = runs-members n (with_numbers (λ (reader : AtPort × Reader). runs_of reader.1.frames) 0 run.end.readers)
-          ∙ numbered-at (λ (reader : AtPort × Reader). runs_of reader.1.frames) n 0 n run.end.readers (no_reader session.ring) (omega arith) over.there;
-      samples = recorded-at session capture n 0 n run.end.readers (no_reader session.ring) (omega arith) over.there;
+          ∙ numbered-at (λ (reader : AtPort × Reader). runs_of reader.1.frames) (no_reader session.ring) n 0 n run.end.readers (omega arith) refl;
+      samples = recorded_from-at session capture run.end.readers n (no_reader session.ring) over.there;
       after = over.read.at;
       slices = over.read.slices;
     })
   where
-    begins : reader_at session (first_stage session) n ≡ no_reader session.ring
-    begins = constant-at (no_reader session.ring) session.readers n
-
     over : ReadsOver session n (first_stage session) run.end
-    over = items-over session n (first_stage session) run.end body (rw (map-size _ session.readers) there)
-        (read-by _ [] (no_reader session.ring) None refl begins (refl, refl) tt) run.may
+    over = items-over session n (first_stage session) run.end body (rw (length-map session.readers) there)
+        (read-by _ [] (no_reader session.ring) None refl (get_or-map (λ setup. no_reader session.ring) session.readers n None) (refl, refl) tt) run.may

@@ -1,20 +1,18 @@
 -- The lines of a reader: each gets one slice of frames, and in a stretch each slice begins where the one before it ended.
-use Rattle.run_laws.specs.Prelude.{ap, arith, inl, inr, List, None, Option, refl, Some, subst, sym, ℕ, [], ◌++◌, ◌+◌, ◌-◌, ◌∙◌, ◌∷◌, ◌≡◌, ◌≤◌, ◌⊎◌, append-nil}
-use Rattle.run_laws.specs.Prelude.{append_assoc, range_with_len, Bool, Err, false, if◌then◌else◌, nat_eq, nat_le, nat_lt, Ok, Result, suc, true, zero, ⊤, ◌&&◌}
-use Rattle.run_laws.specs.Prelude.{PcmError, XrunWhy, Call, State, Disconnected, Running, next_of, Capture, nothing_found, refusal_in, Position, Got, Course}
-use Rattle.run_laws.specs.Prelude.{ends, ◌>>=◌, Gives, Gives-any, Gives-map, Gives-then, CaptureStream, facts_with, read_after, read_to, started_at, waits}
-use Rattle.run_laws.specs.Prelude.{with_avail, counts, gets_frames, read_course, reads_first, reads_on, transfer_on, transfers, Op, Answer, Count, Done, Failed}
-use Rattle.run_laws.specs.Prelude.{Row, count_answer, done_answer, reported_error, LineMay, LinesMay, frames_by, Reader, reader_kind, AtPort, Rules, AreSlices}
-use Rattle.run_laws.specs.Prelude.{ends_by_row, goes_on_after, got_by, IsFirstOf, open_reader-line, reader-line}
-use Rattle.dsnoop_client.specs.Calls.{Answered, over_of, seen_at, with_outcome, after_start, after_sync, taken_of}
-use Rattle.dsnoop_client.specs.Course.{if_admitted, admitted_by, starts, syncs}
-use Rattle.dsnoop_client.specs.View.{avail_of, is_running}
+use Rattle.run_laws.specs.Prelude.{ap, arith, inl, inr, List, None, Option, refl, Some, subst, sym, ℕ, [], ◌++◌, ◌+◌, ◌-◌, ◌∙◌, ◌∷◌, ◌≡◌, ◌⊎◌, nat_tests}
+use Rattle.run_laws.specs.Prelude.{append-nil, append_assoc, range_with_len, Bool, Err, false, if◌then◌else◌, nat_eq, nat_le, Ok, Result, true, ⊤, PcmError}
+use Rattle.run_laws.specs.Prelude.{XrunWhy, Call, State, Disconnected, Running, next_of, Capture, nothing_found, refusal_in, Got, Course, ends, ◌>>=◌, Gives}
+use Rattle.run_laws.specs.Prelude.{Gives-any, Gives-behind, Gives-map, Gives-then, CaptureStream, read_after, taken_of, waits, with_avail, counts, gets_frames}
+use Rattle.run_laws.specs.Prelude.{read_course, reads_first, reads_on, starts, transfer_on, transfers, Op, Answer, Count, Done, Failed, Row, count_answer}
+use Rattle.run_laws.specs.Prelude.{done_answer, reported_error, LineMay, LinesMay, frames_by, Reader, reader_kind, AtPort, Rules, AreSlices, ends_by_row}
+use Rattle.run_laws.specs.Prelude.{goes_on_after, got_by, IsFirstOf, open_reader-line, reader-line}
+use Rattle.dsnoop_client.specs.Calls.{Answered}
+use Rattle.dsnoop_client.specs.Course.{admitted_by, syncs}
+use Rattle.dsnoop_client.specs.View.{is_running}
 use Rattle.lab_run.specs.Reader.{after_call, call_answer, call_of, row_by}
-use Rattle.run_laws.specs.Slices.{ends_by, ends_stretch, GetsSlice, LinesGetSlices, ReadersReadOn, ReadsOn}
+use Rattle.run_laws.specs.Slices.{ends_by, ends_stretch, LinesGetSlices, ReadersReadOn, ReadsOn}
 use Rattle.snd_base.specs.declared.errors.PcmError.TheVariants as error
-use Rattle.snd_base.specs.declared.errors.XrunWhy.TheVariants as why
 use Rattle.pcm_states.specs.declared.calls.Call.TheVariants as call
-use Rattle.pcm_states.specs.declared.states.State.TheVariants as state
 use Rattle.snoop_core.specs.declared.port.Got.TheVariants as got
 use Rattle.lab_lines.specs.declared.line.Op.TheVariants as op
 
@@ -44,9 +42,7 @@ none-goes true first own = tt
 none-goes false first own = tt
 
 still-goes : (b : Bool) (next first : ℕ) (d : CaptureStream) → d.next ≡ next → IsOpen d ⊎ (b ≡ true) → IsGoing (goes_on_after b (Some next) first 0) (Some d)
-still-goes true next first d same open_or = tt
-still-goes false next first d same (inl is) = (same, is)
-still-goes false next first d same (inr ends_so) = absurd (cc)
+still-goes b next first d same open_or = grind (arith, nat_tests)
 
 got-failed : (asked : Op) (e : PcmError) → got_by asked (Failed e) ≡ 0
 got-failed (op.Read n) e = refl
@@ -56,22 +52,6 @@ got-done : (asked : Op) → got_by asked Done ≡ 0
 got-done (op.Read n) = refl
 got-done other = refl
 
--- ---- the errors that end a stretch
-
-abbrev ends_by_error : PcmError → Bool
-ends_by_error (error.Xrun w) = true
-ends_by_error error.Stopped = true
-ends_by_error other = false
-
-ends-reported : (f : Answer → Bool) → ((w : XrunWhy) → f (Failed (error.Xrun w)) ≡ true) → f (Failed error.Stopped) ≡ true → (e : PcmError) → ends_by_error e ≡ true
-    → f (Failed (reported_error e)) ≡ true
-ends-reported f xrun stop (error.Xrun (why.Avail avail seen)) is = xrun (why.Avail avail 0)
-ends-reported f xrun stop (error.Xrun (why.Late frame channel word)) is = xrun (why.Late frame channel 0)
-ends-reported f xrun stop (error.Xrun (why.Overtaken frame channel word)) is = xrun (why.Overtaken frame channel 0)
-ends-reported f xrun stop (error.Xrun other) is = xrun other
-ends-reported f xrun stop error.Stopped is = stop
-ends-reported f xrun stop other is = absurd (cc)
-
 -- ---- a reader in a stretch
 
 abbrev pub going : CaptureStream → CaptureStream
@@ -80,47 +60,38 @@ going r = record r { status = record { state = Running; stopped = false } }
 abbrev gone : CaptureStream → CaptureStream
 gone r = record r { status = record { state = Disconnected; stopped = false } }
 
-abbrev StaysBy : Result (Unit {0}) PcmError → CaptureStream → Type 0
-StaysBy (Ok done) d = IsOn d
-StaysBy (Err e) d = IsOpen d ⊎ (ends_by_error e ≡ true)
+abbrev StaysBy : Op → Result (Unit {0}) PcmError → CaptureStream → Type 0
+StaysBy asked (Ok done) d = IsOn d
+StaysBy asked (Err e) d = IsOpen d ⊎ (ends_by_row asked (Failed (reported_error e)) ≡ true)
 
 -- a reader that doesn't run any more has an error that ends what it reads
 abbrev RunsBy : Result (Unit {0}) PcmError → CaptureStream → Type 0
 RunsBy (Ok done) d = ⊤
 RunsBy (Err e) d = (d.status.state ≡ Running) ⊎ (ends_by (reported_error e) ≡ true)
 
-record Syncs (r : CaptureStream) (x : Answered (Unit {0})) : Type 0 where
+record Syncs (r : CaptureStream) (asked : Op) (x : Answered (Unit {0})) : Type 0 where
   next : x.0.next ≡ r.next
-  stays : StaysBy x.1 x.0
+  stays : StaysBy asked x.1 x.0
   runs : RunsBy x.1 x.0
 
-syncs-on : (r : CaptureStream) (asked : Call) → (asked ≡ call.Transfer) ⊎ (asked ≡ call.Sync) → Gives (Syncs r) (syncs (going r) asked)
+-- a line whose stretch an xrun ends, and a stop
+abbrev EndsSo : Op → Type 0
+EndsSo asked = ((w : XrunWhy) → ends_by_row asked (Failed (error.Xrun w)) ≡ true) × (ends_by_row asked (Failed error.Stopped) ≡ true)
+
+syncs-on : (r : CaptureStream) (asked : Op) → EndsSo asked → (c : Call) → (c ≡ call.Transfer) ⊎ (c ≡ call.Sync) → Gives (Syncs r asked) (syncs (going r) c)
 unfolding syncs
-syncs-on r asked which = by_load
-  where
-    by_found : (c : Call) (p : Position) → (c ≡ call.Transfer) ⊎ (c ≡ call.Sync) → (gone : Bool) (over : Option (ℕ × ℕ))
-        → Syncs r (with_outcome (seen_at (going r) p) (next_of Running c (facts_with gone over None)))
-    by_found c p (inl is) true over = rw is (record { next = refl; stays = inl (refl, inr refl); runs = inr refl })
-    by_found c p (inl is) false (Some (avail, seen)) = rw is (record { next = refl; stays = inr refl; runs = inr refl })
-    by_found c p (inl is) false None = rw is (record { next = refl; stays = (refl, refl); runs = tt })
-    by_found c p (inr is) true over = rw is (record { next = refl; stays = inl (refl, inr refl); runs = inr refl })
-    by_found c p (inr is) false (Some (avail, seen)) = rw is (record { next = refl; stays = inr refl; runs = inr refl })
-    by_found c p (inr is) false None = rw is (record { next = refl; stays = (refl, refl); runs = tt })
+syncs-on r asked so c which = grind (arith, nat_tests)
 
-    by_load : (load : Option Position) → Syncs r (after_sync (going r) asked load)
-    by_load None = record { next = refl; stays = inr refl; runs = inl refl }
-    by_load (Some p) = by_found asked p which p.gone (over_of (seen_at (going r) p))
+-- a call that gets nothing
+gets-none : (at : Option ℕ) (first : ℕ) (d : CaptureStream) (asked : Op) (answer : Answer) → IsFirstOf at first → frames_by asked answer d ≡ [] → got_by asked answer ≡ 0
+    → IsGoing (goes_on_after (ends_by_row asked answer) at first 0) (Some d) → Gets at asked (d, answer)
+gets-none at first d asked answer begins no_frames none goes = grind (arith, nat_tests)
 
--- a call of a reader in a stretch that gets nothing
+-- of a reader in a stretch
 nothing : (r d : CaptureStream) (asked : Op) (answer : Answer) → frames_by asked answer d ≡ [] → got_by asked answer ≡ 0 → d.next ≡ r.next
     → IsOpen d ⊎ (ends_by_row asked answer ≡ true) → Gets (Some r.next) asked (d, answer)
-nothing r d asked answer no_frames none same stays = record {
-  first = r.next;
-  begins = refl;
-  frames = no_frames ∙ ap (λ n. range_with_len r.next n) (sym none);
-  goes = subst (λ n. IsGoing (goes_on_after (ends_by_row asked answer) (Some r.next) r.next n) (Some d)) (sym none)
-      (still-goes (ends_by_row asked answer) r.next r.next d same stays);
-}
+nothing r d asked answer no_frames none same stays =
+    gets-none (Some r.next) r.next d asked answer refl no_frames none (still-goes (ends_by_row asked answer) r.next r.next d same stays)
 
 -- a call of a reader in a stretch that runs: the next frame is after those that it got, and the reader runs on, or the line ends what it reads
 pub record GoesOn (r : CaptureStream) (asked : Op) (x : CaptureStream × Answer) : Type 0 where
@@ -133,65 +104,43 @@ still : (r d : CaptureStream) (asked : Op) (answer : Answer) → frames_by asked
 still r d asked answer no_frames none same stays goes =
     record { gets = nothing r d asked answer no_frames none same stays; next = omega (arith, none, same); goes = goes }
 
-open-of : (d : CaptureStream) → IsOn d → IsOpen d
-open-of d on = (on.0, inl on.1)
-
 -- the frames of its read
 frames-on : (r d : CaptureStream) (n done : ℕ) (ended : Got) → d.next ≡ r.next → IsOn d → GoesOn r (op.Read n) (let x = read_after d n done ended in (x.0, count_answer x.1))
-frames-on r d n done ended same on = by_test (nat_lt 0 n && nat_eq (avail_of d) 0)
-  where
-    whole : (count : ℕ) → IsGoing (goes_on_after false (Some r.next) r.next count) (Some (record d { next = d.next + count }))
-    whole zero = (omega (arith, same), (on.0, inl on.1))
-    whole (suc count) = (ap (λ k. k + suc count) same, (on.0, inl on.1))
-
-    by_end : (ended : Got) → GoesOn r (op.Read n) (let x = read_to d done ended in (x.0, count_answer x.1))
-    by_end got.Whole = record {
-      gets = record { first = r.next; begins = refl; frames = ap (λ first. range_with_len first done) (omega (arith, same)); goes = whole done };
-      next = omega (arith, same);
-      goes = inl on.1;
-    }
-    by_end (got.Overtaken channel word) = still r _ (op.Read n) _ refl refl same (inr refl) (inr refl)
-    by_end got.Stopped = still r _ (op.Read n) _ refl refl same (inr refl) (inl on.1)
-
-    by_test : (test : Bool) → GoesOn r (op.Read n) (let x = if test then (d, Err error.Again) else read_to d done ended in (x.0, count_answer x.1))
-    by_test true = still r d (op.Read n) _ refl refl same (inl (open-of d on)) (inl on.1)
-    by_test false = by_end ended
+frames-on r d n done ended same on = grind (arith, nat_tests)
 
 -- a fact of a call and its answer
 answers-on : {X : Type 0} (P : CaptureStream × Answer → Type 0) (answer : Result X PcmError → Answer) (m : Course (Answered X)) → Gives (λ x. P (x.0, answer x.1)) m
     → Gives P (call_answer answer m)
 answers-on P answer m all = Gives-then (λ x. P (x.0, answer x.1)) P m (λ done. ends (done.0, answer done.1)) all (λ x is. is)
 
--- an error of a sync
-stays-on : (d : CaptureStream) (asked : Op) (e : PcmError) → ((w : XrunWhy) → ends_by_row asked (Failed (error.Xrun w)) ≡ true) → ends_by_row asked (Failed error.Stopped) ≡ true
-    → IsOpen d ⊎ (ends_by_error e ≡ true) → IsOpen d ⊎ (ends_by_row asked (Failed (reported_error e)) ≡ true)
-stays-on d asked e xrun stop (inl is) = inl is
-stays-on d asked e xrun stop (inr is) = inr (ends-reported (λ answer. ends_by_row asked answer) xrun stop e is)
+transfers-on : (r d : CaptureStream) (n : ℕ) → d.next ≡ r.next → IsOn d → Gives (λ x. GoesOn r (op.Read n) (x.0, count_answer x.1)) (transfers d n)
+unfolding transfers
+transfers-on r d n same on = Gives-behind _ (gets_frames (taken_of d n) d.next) (λ end. ends (read_after d n end.0 end.1)) (λ x. frames-on r d n x.0 x.1 same on)
 
 read-on : (r : CaptureStream) (n : ℕ) → Gives (λ x. GoesOn r (op.Read n) (x.0, count_answer x.1)) (reads_on (going r) n)
-unfolding reads_on transfers
-read-on r n = Gives-then (Syncs r) _ (syncs (going r) call.Transfer) (transfer_on n) (syncs-on r call.Transfer (inl refl)) transfer
+unfolding reads_on
+read-on r n = Gives-then (Syncs r (op.Read n)) _ (syncs (going r) call.Transfer) (transfer_on n) (syncs-on r (op.Read n) ((λ w. refl), refl) call.Transfer (inl refl)) transfer
   where
-    transfer : (x : Answered (Unit {0})) → Syncs r x → Gives (λ x. GoesOn r (op.Read n) (x.0, count_answer x.1)) (transfer_on n x)
-    transfer (d, Ok done) is = Gives-then (λ x. ⊤) _ (gets_frames (taken_of d n) d.next) (λ end. ends (read_after d n end.0 end.1))
-        (Gives-any (λ x. ⊤) (gets_frames (taken_of d n) d.next) (λ x. tt)) (λ x any. frames-on r d n x.0 x.1 is.next is.stays)
-    transfer (d, Err e) is = still r d (op.Read n) _ refl refl is.next (stays-on d (op.Read n) e (λ w. refl) refl is.stays) is.runs
+    transfer : (x : Answered (Unit {0})) → Syncs r (op.Read n) x → Gives (λ x. GoesOn r (op.Read n) (x.0, count_answer x.1)) (transfer_on n x)
+    transfer (d, Ok done) is = transfers-on r d n is.next is.stays
+    transfer (d, Err e) is = still r d (op.Read n) _ refl refl is.next is.stays is.runs
 
 pub calls-on : (r : CaptureStream) (asked : Op) → Gives (GoesOn r asked) (call_of (going r) asked)
 unfolding ◌>>=◌ counts
 calls-on r (op.Read n) = answers-on (GoesOn r (op.Read n)) count_answer _ (read-on r n)
 calls-on r op.Start = still r _ op.Start _ refl refl refl (inl (refl, inl refl)) (inl refl)
-calls-on r op.Sync = answers-on (GoesOn r op.Sync) done_answer _ (Gives-map (Syncs r) _ (syncs (going r) call.Sync) (syncs-on r call.Sync (inr refl)) by_sync)
+calls-on r op.Sync = answers-on (GoesOn r op.Sync) done_answer _ (Gives-map (Syncs r op.Sync) _ (syncs (going r) call.Sync)
+    (syncs-on r op.Sync ((λ w. refl), refl) call.Sync (inr refl)) by_sync)
   where
-    by_sync : (x : Answered (Unit {0})) → Syncs r x → GoesOn r op.Sync (x.0, done_answer x.1)
-    by_sync (d, Ok done) is = still r d op.Sync _ refl refl is.next (inl (open-of d is.stays)) (inl is.stays.1)
-    by_sync (d, Err e) is = still r d op.Sync _ refl refl is.next (stays-on d op.Sync e (λ w. refl) refl is.stays) is.runs
+    by_sync : (x : Answered (Unit {0})) → Syncs r op.Sync x → GoesOn r op.Sync (x.0, done_answer x.1)
+    by_sync (d, Ok done) is = still r d op.Sync _ refl refl is.next (inl (is.stays.0, inl is.stays.1)) (inl is.stays.1)
+    by_sync (d, Err e) is = still r d op.Sync _ refl refl is.next is.stays is.runs
 calls-on r op.Avail = answers-on (GoesOn r op.Avail) count_answer _
-    (Gives-then (Syncs r) _ (syncs (going r) call.Sync) (λ done. ends (with_avail done)) (syncs-on r call.Sync (inr refl)) by_sync)
+    (Gives-then (Syncs r op.Avail) _ (syncs (going r) call.Sync) (λ done. ends (with_avail done)) (syncs-on r op.Avail ((λ w. refl), refl) call.Sync (inr refl)) by_sync)
   where
-    by_sync : (x : Answered (Unit {0})) → Syncs r x → GoesOn r op.Avail (let y = with_avail x in (y.0, count_answer y.1))
-    by_sync (d, Ok done) is = still r d op.Avail _ refl refl is.next (inl (open-of d is.stays)) (inl is.stays.1)
-    by_sync (d, Err e) is = still r d op.Avail _ refl refl is.next (stays-on d op.Avail e (λ w. refl) refl is.stays) is.runs
+    by_sync : (x : Answered (Unit {0})) → Syncs r op.Avail x → GoesOn r op.Avail (let y = with_avail x in (y.0, count_answer y.1))
+    by_sync (d, Ok done) is = still r d op.Avail _ refl refl is.next (inl (is.stays.0, inl is.stays.1)) (inl is.stays.1)
+    by_sync (d, Err e) is = still r d op.Avail _ refl refl is.next is.stays is.runs
 calls-on r op.Drop = still r _ op.Drop _ refl refl refl (inr refl) (inr refl)
 calls-on r op.Prepare = still r _ op.Prepare _ refl refl refl (inl (refl, inl refl)) (inl refl)
 calls-on r op.Pause = still r _ op.Pause _ refl refl refl (inl (refl, inl refl)) (inl refl)
@@ -200,146 +149,79 @@ calls-on r other = still r _ other _ refl refl refl (inl (refl, inl refl)) (inl 
 -- a reader whose card is gone gets nothing
 calls-gone : (r : CaptureStream) (asked : Op) → Gives (Gets (Some r.next) asked) (call_of (gone r) asked)
 unfolding ◌>>=◌
-calls-gone r (op.Read n) = nothing r _ (op.Read n) _ refl refl refl (inl (refl, inr refl))
-calls-gone r op.Start = nothing r _ op.Start _ refl refl refl (inl (refl, inr refl))
-calls-gone r op.Sync = nothing r _ op.Sync _ refl refl refl (inl (refl, inr refl))
-calls-gone r op.Avail = nothing r _ op.Avail _ refl refl refl (inl (refl, inr refl))
-calls-gone r op.Drop = nothing r _ op.Drop _ refl refl refl (inr refl)
-calls-gone r op.Prepare = nothing r _ op.Prepare _ refl refl refl (inl (refl, inr refl))
-calls-gone r op.Pause = nothing r _ op.Pause _ refl refl refl (inl (refl, inr refl))
-calls-gone r other = nothing r _ other _ refl refl refl (inl (refl, inr refl))
+calls-gone r other = grind (arith, nat_tests)
 
--- ---- a reader without a stretch: where a read got frames, it runs afterwards
+-- ---- a reader without a stretch
 
-abbrev ReadsWell : Answered ℕ → Type 0
-ReadsWell (d, Ok count) = (count ≡ 0) ⊎ ((count ≤ d.next) × IsOn d)
-ReadsWell (d, Err e) = ⊤
+-- a call that gets nothing, and one that gets frames as it would in a stretch
+idle : (d : CaptureStream) (asked : Op) (answer : Answer) → frames_by asked answer d ≡ [] → got_by asked answer ≡ 0 → Gets None asked (d, answer)
+idle d asked answer no_frames none = gets-none None 0 d asked answer tt no_frames none (none-goes (ends_by_row asked answer) 0 (Some d))
 
+gets-first : (next : ℕ) (asked : Op) (x : CaptureStream × Answer) → Gets (Some next) asked x → Gets None asked x
+gets-first next asked x gets = grind (arith, nat_tests)
+
+-- a start after which the reader runs
 abbrev Opens : Answered (Unit {0}) → Type 0
 Opens (d, Ok done) = IsOn d
 Opens (d, Err e) = ⊤
 
-well-read : (d : CaptureStream) (n done : ℕ) (ended : Got) → IsOn d → ReadsWell (read_after d n done ended)
-well-read d n done ended on = by_test (nat_lt 0 n && nat_eq (avail_of d) 0)
-  where
-    by_end : (ended : Got) → ReadsWell (read_to d done ended)
-    by_end got.Whole = inr (omega arith, on)
-    by_end (got.Overtaken channel word) = tt
-    by_end got.Stopped = tt
-
-    by_test : (test : Bool) → ReadsWell (if test then (d, Err error.Again) else read_to d done ended)
-    by_test true = tt
-    by_test false = by_end ended
-
-transfer-well : (n : ℕ) (x : Answered (Unit {0})) → Opens x → Gives ReadsWell (transfer_on n x)
-unfolding transfers
-transfer-well n (d, Ok done) on = Gives-then (λ x. ⊤) ReadsWell (gets_frames (taken_of d n) d.next) (λ end. ends (read_after d n end.0 end.1))
-    (Gives-any (λ x. ⊤) (gets_frames (taken_of d n) d.next) (λ x. tt)) (λ x any. well-read d n x.0 x.1 on)
-transfer-well n (d, Err e) on = tt
-
 starts-well : (r : CaptureStream) → r.status.stopped ≡ false → Gives Opens (starts r call.Transfer)
 unfolding starts
-starts-well r goes = by_load
-  where
-    by_state : (s : State) (d : CaptureStream) (gone : Bool) → d.status.stopped ≡ false → Opens (with_outcome d (next_of s call.Transfer (facts_with gone None None)))
-    by_state state.Prepared d true is = tt
-    by_state state.Prepared d false is = (is, refl)
-    by_state Running d true is = tt
-    by_state Running d false is = (is, refl)
-    by_state state.Open d gone is = tt
-    by_state state.Setup d gone is = tt
-    by_state state.Xrun d gone is = tt
-    by_state state.Draining d gone is = tt
-    by_state state.Paused d gone is = tt
-    by_state state.Suspended d gone is = tt
-    by_state Disconnected d gone is = tt
+starts-well r goes = grind (arith, nat_tests)
 
-    at-start : (p : Position) (b : Bool) → (if b then seen_at r p else record r { seen = Some p.frame; next = p.frame }).status.stopped ≡ false
-    at-start p true = goes
-    at-start p false = goes
+going-same : (r : CaptureStream) → r.status.stopped ≡ false → r.status.state ≡ Running → r ≡ going r
+going-same r goes runs = λ i. record r { status = record { state = runs i; stopped = goes i } }
 
-    by_load : (load : Option Position) → Opens (after_start r call.Transfer load)
-    by_load None = tt
-    by_load (Some p) = by_state r.status.state (started_at r p) p.gone (at-start p p.gone)
-
-syncs-well : (r : CaptureStream) → r.status.stopped ≡ false → r.status.state ≡ Running → Gives Opens (syncs r call.Transfer)
-syncs-well r goes runs = subst (λ q. Gives Opens (syncs q call.Transfer)) (sym same)
-    (Gives-map (Syncs r) Opens (syncs (going r) call.Transfer) (syncs-on r call.Transfer (inl refl)) well)
-  where
-    same : r ≡ going r
-    same = λ i. record r { status = record { state = runs i; stopped = goes i } }
-
-    well : (x : Answered (Unit {0})) → Syncs r x → Opens x
-    well (d, Ok done) is = is.stays
-    well (d, Err e) is = tt
-
-reads-well : (r : CaptureStream) (n : ℕ) → r.status.stopped ≡ false → Gives ReadsWell (read_course r n)
+reads-first : (r : CaptureStream) (n : ℕ) → r.status.stopped ≡ false → Gives (λ x. Gets None (op.Read n) (x.0, count_answer x.1)) (read_course r n)
 unfolding reads_on reads_first
-reads-well r n goes = by_running (is_running r.status.state) (runs-of r.status.state)
+reads-first r n goes = by_running (is_running r.status.state) (runs-of r.status.state)
   where
+    FirstRead : Answered ℕ → Type 0
+    FirstRead x = Gets None (op.Read n) (x.0, count_answer x.1)
+
     runs-of : (s : State) → is_running s ≡ true → s ≡ Running
     runs-of Running is = refl
     runs-of other is = absurd (cc)
 
-    waits-well : (b : Bool) → ReadsWell (r, if b then Ok 0 else Err error.Again)
-    waits-well true = inl refl
-    waits-well false = tt
+    transfer : (x : Answered (Unit {0})) → Opens x → Gives FirstRead (transfer_on n x)
+    transfer (d, Ok done) on = Gives-map _ FirstRead (transfers d n) (transfers-on d d n refl on) (λ x on. gets-first d.next (op.Read n) (x.0, count_answer x.1) on.gets)
+    transfer (d, Err e) on = idle d (op.Read n) (Failed (reported_error e)) refl refl
 
-    by_start : (b : Bool) → Gives ReadsWell (if b then reads_first r n else ends (r, waits n))
-    by_start true = Gives-then Opens ReadsWell (starts r call.Transfer) (transfer_on n) (starts-well r goes) (transfer-well n)
-    by_start false = waits-well (nat_eq n 0)
+    by_none : (b : Bool) → FirstRead (r, if b then Ok 0 else Err error.Again)
+    by_none true = idle r (op.Read n) (Count 0) refl refl
+    by_none false = idle r (op.Read n) (Failed error.Again) refl refl
+
+    by_start : (b : Bool) → Gives FirstRead (if b then reads_first r n else ends (r, waits n))
+    by_start true = Gives-then Opens FirstRead (starts r call.Transfer) (transfer_on n) (starts-well r goes) transfer
+    by_start false = by_none (nat_eq n 0)
 
     by_running : (b : Bool) → (b ≡ true → r.status.state ≡ Running)
-        → Gives ReadsWell (if b then reads_on r n else (if nat_le r.setup.params.start_threshold n then reads_first r n else ends (r, waits n)))
-    by_running true runs = Gives-then Opens ReadsWell (syncs r call.Transfer) (transfer_on n) (syncs-well r goes (runs refl)) (transfer-well n)
+        → Gives FirstRead (if b then reads_on r n else (if nat_le r.setup.params.start_threshold n then reads_first r n else ends (r, waits n)))
+    by_running true runs = subst (λ q. Gives FirstRead (reads_on q n)) (sym (going-same r goes (runs refl)))
+        (Gives-map _ FirstRead (reads_on (going r) n) (read-on r n) (λ x on. gets-first r.next (op.Read n) (x.0, count_answer x.1) on.gets))
     by_running false runs = by_start (nat_le r.setup.params.start_threshold n)
 
-admitted-well : (r : CaptureStream) (n : ℕ) → Gives ReadsWell (if_admitted r call.Transfer (read_course r n))
-admitted-well r n = by_stop r.status.stopped refl
+calls-first : (r : CaptureStream) (asked : Op) → Gives (Gets None asked) (call_of r asked)
+calls-first r (op.Read n) = answers-on (Gets None (op.Read n)) count_answer _ (by_stop r.status.stopped refl)
   where
-    by_refusal : (refusal : Option PcmError) → r.status.stopped ≡ false → Gives ReadsWell (admitted_by refusal r (read_course r n))
-    by_refusal None goes = reads-well r n goes
-    by_refusal (Some e) goes = tt
+    FirstRead : Answered ℕ → Type 0
+    FirstRead x = Gets None (op.Read n) (x.0, count_answer x.1)
+
+    by_refusal : (refusal : Option PcmError) → r.status.stopped ≡ false → Gives FirstRead (admitted_by refusal r (read_course r n))
+    by_refusal None goes = reads-first r n goes
+    by_refusal (Some e) goes = idle r (op.Read n) (Failed (reported_error e)) refl refl
 
     by_stop : (stopped : Bool) → r.status.stopped ≡ stopped
-        → Gives ReadsWell (admitted_by (if stopped then Some error.Stopped else refusal_in (next_of r.status.state call.Transfer (nothing_found Capture)).answer) r (read_course r n))
-    by_stop true is = tt
+        → Gives FirstRead (admitted_by (if stopped then Some error.Stopped else refusal_in (next_of r.status.state call.Transfer (nothing_found Capture)).answer) r (read_course r n))
+    by_stop true is = idle r (op.Read n) (Failed error.Stopped) refl refl
     by_stop false is = by_refusal (refusal_in (next_of r.status.state call.Transfer (nothing_found Capture)).answer) is
-
-idle : (d : CaptureStream) (asked : Op) (answer : Answer) → frames_by asked answer d ≡ [] → got_by asked answer ≡ 0 → Gets None asked (d, answer)
-idle d asked answer no_frames none = record {
-  first = 0;
-  begins = tt;
-  frames = no_frames ∙ ap (λ n. range_with_len 0 n) (sym none);
-  goes = subst (λ n. IsGoing (goes_on_after (ends_by_row asked answer) None 0 n) (Some d)) (sym none) (none-goes (ends_by_row asked answer) 0 (Some d));
-}
-
-calls-first : (r : CaptureStream) (asked : Op) → Gives (Gets None asked) (call_of r asked)
-calls-first r (op.Read n) = answers-on (Gets None (op.Read n)) count_answer _ (Gives-map ReadsWell _ (if_admitted r call.Transfer (read_course r n)) (admitted-well r n) by_read)
-  where
-    goes : (d : CaptureStream) (count : ℕ) → (count ≡ 0) ⊎ ((count ≤ d.next) × IsOn d) → IsGoing (goes_on_after false None (d.next - count) count) (Some d)
-    goes d zero well = tt
-    goes d (suc count) (inl none) = absurd (omega (arith, none))
-    goes d (suc count) (inr (few, on)) = (omega (arith, few), (on.0, inl on.1))
-
-    by_read : (x : Answered ℕ) → ReadsWell x → Gets None (op.Read n) (x.0, count_answer x.1)
-    by_read (d, Ok count) well = record { first = d.next - count; begins = tt; frames = refl; goes = goes d count well }
-    by_read (d, Err e) well = idle d (op.Read n) (Failed (reported_error e)) refl refl
-calls-first r op.Start = Gives-any _ (call_of r op.Start) (λ x. idle x.0 op.Start x.1 refl refl)
-calls-first r op.Sync = Gives-any _ (call_of r op.Sync) (λ x. idle x.0 op.Sync x.1 refl refl)
-calls-first r op.Avail = Gives-any _ (call_of r op.Avail) (λ x. idle x.0 op.Avail x.1 refl refl)
-calls-first r op.Drop = Gives-any _ (call_of r op.Drop) (λ x. idle x.0 op.Drop x.1 refl refl)
-calls-first r op.Prepare = Gives-any _ (call_of r op.Prepare) (λ x. idle x.0 op.Prepare x.1 refl refl)
 calls-first r other = Gives-any _ (call_of r other) (λ x. idle x.0 other x.1 refl refl)
 
 calls-get : (at : Option ℕ) (r : CaptureStream) (asked : Op) → IsGoing at (Some r) → Gives (Gets at asked) (call_of r asked)
 calls-get None r asked goes = calls-first r asked
 calls-get (Some next) r asked (same, (goes, inl runs)) = subst (λ k. Gives (Gets (Some k) asked) (call_of r asked)) same
     (Gives-map (GoesOn r asked) (Gets (Some r.next) asked) (call_of r asked)
-    (subst (λ q. Gives (GoesOn r asked) (call_of q asked)) (sym is) (calls-on r asked)) (λ x goes. goes.gets))
-  where
-    is : r ≡ going r
-    is = λ i. record r { status = record { state = runs i; stopped = goes i } }
+    (subst (λ q. Gives (GoesOn r asked) (call_of q asked)) (sym (going-same r goes runs)) (calls-on r asked)) (λ x goes. goes.gets))
 calls-get (Some next) r asked (same, (goes, inr lost)) = subst (λ k. Gives (Gets (Some k) asked) (call_of r asked)) same
     (subst (λ q. Gives (Gets (Some r.next) asked) (call_of q asked)) (sym is) (calls-gone r asked))
   where
@@ -432,13 +314,10 @@ pub readers-read_on : (rules : Rules) (phase number : ℕ) → ReadersReadOn rul
 readers-read_on rules phase number a b reader after r asked answer is runs may =
     open_reader-line (λ x. ReadsOn reader r asked x.0 x.1) rules phase number a b reader after r asked answer is (stays (Failed error.Stopped)) (stays Done)
     (λ goes. Gives-map (GoesOn r asked) (λ x. ReadsOn reader r asked (after_call reader asked x).0 (after_call reader asked x).1) (call_of r asked)
-    (subst (λ q. Gives (GoesOn r asked) (call_of q asked)) (sym (same goes)) (calls-on r asked)) called) may
+    (subst (λ q. Gives (GoesOn r asked) (call_of q asked)) (sym (going-same r goes runs)) (calls-on r asked)) called) may
   where
     stays : (given : Answer) → ReadsOn reader r asked reader given
     stays given = record { own = r; is_own = is; count = 0; frames = sym (append-nil reader.frames); next = omega arith; goes = inl runs }
-
-    same : r.status.stopped ≡ false → r ≡ going r
-    same goes = λ i. record r { status = record { state = runs i; stopped = goes i } }
 
     called : (x : CaptureStream × Answer) → GoesOn r asked x → ReadsOn reader r asked (after_call reader asked x).0 (after_call reader asked x).1
     called (d, given) goes =
@@ -453,17 +332,4 @@ readers-read_on rules phase number a b reader after r asked answer is runs may =
 
 pub lines-get_slices : (rules : Rules) (phase number : ℕ) → LinesGetSlices rules phase number
 lines-get_slices rules phase number a b reader after asked answer may =
-    reader-line (λ x. GetsSlice reader x.0) rules phase number a b reader after asked answer (λ none. stays) (λ r is. stays) (λ r is. stays)
-    (λ r is. Gives-any (λ (x : CaptureStream × Answer). GetsSlice reader (after_call reader asked x).0) (call_of r asked) called) may
-  where
-    stays : GetsSlice reader reader
-    stays = record { first = 0; count = 0; frames = sym (append-nil reader.frames) }
-
-    -- what a call got
-    gets : (o : Op) (given : Answer) (d : CaptureStream) → (first : ℕ) × (count : ℕ) × (frames_by o given d ≡ range_with_len first count)
-    gets (op.Read n) (Count count) d = (d.next - count, count, refl)
-    gets other given d = (0, 0, refl)
-
-    called : (x : CaptureStream × Answer) → GetsSlice reader (after_call reader asked x).0
-    called (d, given) = let got = gets asked given d in
-        record { first = got.0; count = got.1; frames = ap (λ frames. reader.frames ++ frames) got.2 }
+    let got = line-gets rules phase number a b reader after asked answer None tt may in record { first = got.first; count = got_by asked answer; frames = got.frames }

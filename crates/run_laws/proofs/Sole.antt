@@ -1,20 +1,19 @@
 -- In a card that is shared by channels the clients' segments have but one sample at a frame and channel: who has the channel next goes on past it.
 use Rattle.run_laws.specs.Prelude.{ap, arith, inl, inr, length, List, None, Option, refl, Some, subst, sym, ℕ, [], ◌++◌, ◌+◌, ◌-◌, ◌<◌, ◌∙◌, ◌∷◌, ◌≡◌, ◌≤◌, ◌⊎◌}
-use Rattle.run_laws.specs.Prelude.{eq-eqb, eqb-true, false≢true, nat_tests, append-nil, AllByRecursion, Bool, Contains, false, IfSome, if◌then◌else◌, is_some}
-use Rattle.run_laws.specs.Prelude.{max, nat_eq, slice_index_or, slice_set, true, ℤ, ⊤, ◌&&◌, Geometry, Segment, first_free, AreFree, claimed, ClaimRow as Claim}
-use Rattle.run_laws.specs.Prelude.{has_channel, last_frames, owner_of, released, Marks, high_frame, is_before, last_before, start_marks, start_of}
-use Rattle.run_laws.specs.Prelude.{PlaybackStream, segment_of, Op, Answer, Dshare, ClaimIsOwners, with_claim, with_release, Client, present_of, segments_of}
-use Rattle.run_laws.specs.Prelude.{no_sound, all_segments, bindings_of, entries_by, entries_of, LineMay, AtPort, Rules, ended_client, first_stage, no_client}
-use Rattle.run_laws.specs.Prelude.{Session, Setup, Stage, channels_of_client}
+use Rattle.run_laws.specs.Prelude.{eq-eqb, eqb-true, false≢true, nat_tests, append-nil, IfSome_then, AllByRecursion, Bool, Contains, false, IfSome}
+use Rattle.run_laws.specs.Prelude.{if◌then◌else◌, is_some, max, nat_eq, slice_index_or, slice_set, true, ℤ, Geometry, Segment, AreFree, claimed}
+use Rattle.run_laws.specs.Prelude.{ClaimRow as Claim, has_channel, last_frames, owner_of, released, Marks, high_frame, last_before, start_marks, PlaybackStream}
+use Rattle.run_laws.specs.Prelude.{segment_of, Op, Answer, Dshare, ClaimIsOwners, with_claim, with_release, Client, present_of, segments_of, no_sound}
+use Rattle.run_laws.specs.Prelude.{all_segments, bindings_of, entries_by, entries_of, LineMay, AtPort, Rules, ended_client, first_stage, no_client, Session}
+use Rattle.run_laws.specs.Prelude.{Setup, Stage, channels_of_client}
 use Rattle.snd_base.specs.Places.{first_frame}
 use Rattle.run_laws.proofs.Apart.{Has, HasOneOwner, HoldsChannel, first-owner, free-at, granted-free, line-part, one-owner}
 use Rattle.run_laws.proofs.AtMostOne.{IsOne, Lands, all-once, bound_of, heard_by, count-more, count-one, count-unbound, heard_count, seg_end}
-use Rattle.run_laws.proofs.Bound.{IsBound, IsClientBound, clients-bound}
-use Rattle.run_laws.proofs.Going.{IsPlaced, onward-less, open-map, placed-past, still-client}
-use Rattle.run_laws.proofs.Onward.{Channels, Onward, end_of, free_frame, high_end}
-use Rattle.run_laws.proofs.OnwardCalls.{reached}
-use Rattle.run_laws.proofs.OnwardLines.{After, InOpen, ends-reached, line-after, waits-none}
-use Rattle.run_laws.proofs.Stages.{IsLasting, OfNumber, at, by-number, each-from, first-none, kind_at, client_opened, set-so}
+use Rattle.run_laws.proofs.Bound.{IsBound, IsNumberBound, clients-bound}
+use Rattle.run_laws.proofs.Going.{onward-less, open-map, placed-past, still-client}
+use Rattle.run_laws.proofs.Onward.{Channels, Onward, end_of, free_frame, high_end, reached}
+use Rattle.run_laws.proofs.OnwardLines.{After, InOpen, has_none, line-after, past-reached}
+use Rattle.run_laws.proofs.Stages.{IsLasting, at, each-from, first-each, first-none, kind_at, client_opened, set-so}
 use Rattle.mix_core.specs.Laid as laid
 
 -- ---- claims
@@ -32,49 +31,31 @@ released-heard channels (Some frame) claims channel e heard = by_test (has_chann
     by_test true position all = heard position all.1
     by_test false position all = heard position all
 
--- a release after the frame before e
-own-heard : (channels : List ℕ) (frame : ℕ) (claims : List Claim) (channel e : ℕ) → has_channel channels channel ≡ true → e ≤ frame + 1 → Heard (released channels (Some frame) ∷ claims) channel e
-own-heard channels frame claims channel e has most = by_test (has_channel channels channel) has
-  where
-    by_test : (b : Bool) → b ≡ true → (position : ℕ) → AllByRecursion (λ f. f < position) (if b then frame ∷ last_frames claims channel else last_frames claims channel) → e ≤ position
-    by_test true is position all = omega (arith, most, all.0)
-    by_test false is position all = absurd (false≢true is)
-
 -- the last frame in which a sample was placed is the one before the high
+high-last : (m : Marks) (e : ℕ) → e ≤ high_end m → e ≤ last_before m.high + 1
+high-last m e most = grind (arith, nat_tests, most)
+
 high-heard : (g : Geometry) (m : Marks) (channels : List ℕ) (claims : List Claim) (channel e : ℕ) → has_channel channels channel ≡ true → first_frame g < e → e ≤ high_end m
     → Heard (released channels (high_frame g m) ∷ claims) channel e
-high-heard g m channels claims channel e has after most = by_test (is_before (start_of g) m.high) refl
-  where
-    last-one : e ≤ last_before m.high + 1
-    last-one = by_channel (nat_eq m.high.channel 0) refl
-      where
-        by_channel : (none : Bool) → nat_eq m.high.channel 0 ≡ none → e ≤ (if none then m.high.frame - 1 else m.high.frame) + 1
-        by_channel true is = grind (arith, nat_tests, most)
-        by_channel false is = grind (arith, nat_tests, most)
-
-    by_test : (before : Bool) → is_before (start_of g) m.high ≡ before → Heard (released channels (if before then Some (last_before m.high) else None) ∷ claims) channel e
-    by_test true is = own-heard channels (last_before m.high) claims channel e has last-one
-    by_test false is = absurd (not-before m.high.frame m.high.channel is most)
-      where
-        not-before : (frame part : ℕ) → is_before (start_of g) (record { frame = frame; channel = part }) ≡ false
-            → e ≤ first_free (record { frame = frame; channel = part }) 0 → ⊥
-        not-before frame part not least = grind (arith, nat_tests, after)
+high-heard g m channels claims channel e has after most = grind (arith, nat_tests)
 
 -- ---- one client
 
 -- an open client with the channel goes on past x, with an end y before the end of what its port placed
-abbrev pub GoesPast : ℕ → ℕ → ℕ → (ℕ → Type 0) → AtPort × Client → Type 0
-GoesPast channel p x Ends (a, client) = (c : PlaybackStream) → client.own ≡ Some c → Has c.setup.bindings channel → (y : ℕ) × Ends y × Onward p x y a.marks c
+pub record GoesPast (channel p x : ℕ) (Ends : ℕ → Type 0) (z : AtPort × Client) : Type 0 where
+  pub by : (c : PlaybackStream) → z.1.own ≡ Some c → Has c.setup.bindings channel → (y : ℕ) × Ends y × Onward p x y z.0.marks c
 
-goes-map : (channel p q x : ℕ) (Ends More : ℕ → Type 0) (z : AtPort × Client) → p ≤ q → ((y : ℕ) → Ends y → More y) → GoesPast channel p x Ends z → GoesPast channel q x More z
-goes-map channel p q x Ends More z later more goes c is has =
-    let was = goes c is has in (was.0, more was.0 was.1, onward-less p q x was.0 x was.0 z.0.marks c later (omega arith) (omega arith) was.2)
+goes-map : {channel p q x : ℕ} {Ends More : ℕ → Type 0} {z : AtPort × Client} → p ≤ q → ((y : ℕ) → Ends y → More y) → GoesPast channel p x Ends z → GoesPast channel q x More z
+goes-map {p = p} {q = q} {x = x} {z = z} later more goes = record {
+  by = λ c is has. let was = goes.by c is has in
+      (was.0, more was.0 was.1, onward-less p q x was.0 x was.0 z.0.marks c later (omega arith) (omega arith) was.2);
+}
 
-goes-open : (channel p x y : ℕ) (Ends : ℕ → Type 0) (z : AtPort × Client) → Ends y → InOpen z.1.own (Onward p x y z.0.marks) → GoesPast channel p x Ends z
-goes-open channel p x y Ends z ends goes c is has = (y, ends, subst (λ o. InOpen o (Onward p x y z.0.marks)) is goes)
+goes-open : {channel p x : ℕ} {Ends : ℕ → Type 0} {z : AtPort × Client} (y : ℕ) → Ends y → InOpen z.1.own (Onward p x y z.0.marks) → GoesPast channel p x Ends z
+goes-open {p = p} {x = x} {z = z} y ends goes = record { by = λ c is has. (y, ends, subst (λ o. InOpen o (Onward p x y z.0.marks)) is goes) }
 
-goes-not : (channel p x : ℕ) (Ends : ℕ → Type 0) (z : AtPort × Client) → (HoldsChannel channel z → ⊥) → GoesPast channel p x Ends z
-goes-not channel p x Ends z not c is has = absurd (not (subst (λ (o : Option PlaybackStream). Has (channels_of_client o) channel) (sym is) has))
+goes-not : {channel p x : ℕ} {Ends : ℕ → Type 0} {z : AtPort × Client} → (HoldsChannel channel z → ⊥) → GoesPast channel p x Ends z
+goes-not {channel = channel} not = record { by = λ c is has. absurd (not (subst (λ (o : Option PlaybackStream). Has (channels_of_client o) channel) (sym is) has)) }
 
 module _ (session : Session) (frame channel : ℕ) where
   abbrev Count : ℕ → List Segment → ℕ
@@ -84,19 +65,19 @@ module _ (session : Session) (frame channel : ℕ) where
   abbrev Comes : ℕ → ℕ → ℕ → List Segment → ℕ → Type 0
   Comes n x b segments end = (Count n segments ≡ b) ⊎ ((x ≤ frame) × (Count n segments ≡ b + 1) × (frame + 1 ≤ end))
 
-  -- a segment that begins past x comes to those of a client
-  comes : (n x b : ℕ) (segments : List Segment) (s : Segment) → x ≤ s.card → Count n segments ≡ b → Comes n x b (segments ++ s ∷ []) (seg_end s)
-  comes n x b segments s past is = by_one (count-one session frame channel n s)
+  -- a segment that begins past x, and ends before an end, comes to those of a client
+  comes : (n x b end : ℕ) (segments : List Segment) (s : Segment) → x ≤ s.card → seg_end s ≤ end → Count n segments ≡ b → Comes n x b (segments ++ s ∷ []) end
+  comes n x b end segments s past before is = by_one (count-one session frame channel n s)
     where
       more : Count n (segments ++ s ∷ []) ≡ Count n segments + length (laid.at (entries_by session (n, s)) frame channel)
       more = count-more session frame channel n segments s
 
-      within : (e : ℕ) → frame < e → frame + 1 ≤ e
-      within e less = omega (arith, less)
+      within : (e : ℕ) → frame < e → e ≤ end → frame + 1 ≤ end
+      within e less high = omega (arith, less, high)
 
-      by_one : IsOne (laid.at (entries_by session (n, s)) frame channel) (Lands session frame channel n s) → Comes n x b (segments ++ s ∷ []) (seg_end s)
+      by_one : IsOne (laid.at (entries_by session (n, s)) frame channel) (Lands session frame channel n s) → Comes n x b (segments ++ s ∷ []) end
       by_one (inl none) = inl (omega (arith, more, none, is))
-      by_one (inr (one, lands)) = inr (omega (arith, past, lands.1), omega (arith, more, one, is), within (seg_end s) lands.2)
+      by_one (inr (one, lands)) = inr (omega (arith, past, lands.1), omega (arith, more, one, is), within (seg_end s) lands.2 before)
 
   -- what a line makes of a client that goes on past x
   abbrev LineEnd : ℕ → ℕ → ℕ → ℕ → ℕ → AtPort × Client → Type 0
@@ -112,7 +93,7 @@ module _ (session : Session) (frame channel : ℕ) where
       by_end : After p x y client c k.marks after → LineEnd p n x y b (k, after)
       by_end (goes, inl same) = inl (ap (λ segments. Count n segments) same ∙ count, goes)
       by_end (goes, inr (same, placed, past)) =
-          by_count (subst (λ segments. Comes n x b segments (end_of c)) (sym same) (comes n x b client.ended (segment_of c) (placed-past p x y a.marks c placed onward) count))
+          by_count (subst (λ segments. Comes n x b segments (end_of c)) (sym same) (comes n x b (end_of c) client.ended (segment_of c) (placed-past p x y a.marks c placed onward) (omega arith) count))
         where
           by_count : Comes n x b after.ended (end_of c) → LineEnd p n x y b (k, after)
           by_count (inl none) = inl (none, goes)
@@ -126,21 +107,12 @@ module _ (session : Session) (frame channel : ℕ) where
   -- the present stretch of such a client
   end-comes : (p n x y b : ℕ) (z : AtPort × Client) (c : PlaybackStream) → z.1.own ≡ Some c → Onward p x y z.0.marks c → Count n z.1.ended ≡ b
       → Comes n x b (segments_of z.1) (high_end z.0.marks)
-  end-comes p n x y b (a, client) c is onward count = rw is (by_placed (nat_eq c.stretch.committed 0 && nat_eq c.stretch.part 0) refl)
+  end-comes p n x y b (a, client) c is onward count = rw is (by_placed (has_none c) refl)
     where
-      ends-high : IsPlaced c → Onward p x y a.marks c → end_of c ≤ high_end a.marks
-      ends-high placed (inl begun) = omega (arith, ends-reached p x y a.marks c begun placed, begun.lies.top)
-      ends-high placed (inr waits) = absurd (false≢true (sym placed ∙ waits-none p x y a.marks c waits))
-
-      further : (segments : List Segment) → end_of c ≤ high_end a.marks → Comes n x b segments (end_of c) → Comes n x b segments (high_end a.marks)
-      further segments high (inl none) = inl none
-      further segments high (inr (low, one, before)) = inr (low, one, omega (arith, high, before))
-
-      by_placed : (none : Bool) → (nat_eq c.stretch.committed 0 && nat_eq c.stretch.part 0) ≡ none
-          → Comes n x b (client.ended ++ (if none then [] else segment_of c ∷ [])) (high_end a.marks)
+      by_placed : (none : Bool) → has_none c ≡ none → Comes n x b (client.ended ++ (if none then [] else segment_of c ∷ [])) (high_end a.marks)
       by_placed true none = inl (ap (λ segments. Count n segments) (append-nil client.ended) ∙ count)
-      by_placed false placed = further (client.ended ++ segment_of c ∷ []) (ends-high placed onward)
-          (comes n x b client.ended (segment_of c) (placed-past p x y a.marks c placed onward) count)
+      by_placed false placed = comes n x b (high_end a.marks) client.ended (segment_of c) (placed-past p x y a.marks c placed onward)
+          (past-reached p x y a.marks c onward placed).1.high count
 
 -- ---- what is known of the clients of a stage
 
@@ -156,8 +128,7 @@ samples_by (Some t) n = if nat_eq t n then 1 else 0
 
 -- the claims know of the sample, or its frame is before an end
 abbrev pub KnowsOf : ℕ → ℕ → List Claim → Option ℕ → ℕ → Type 0
-KnowsOf frame channel claims None y = ⊤
-KnowsOf frame channel claims (Some t) y = Heard claims channel (frame + 1) ⊎ (frame + 1 ≤ y)
+KnowsOf frame channel claims by y = IfSome by (λ t. Heard claims channel (frame + 1) ⊎ (frame + 1 ≤ y))
 
 -- one client, or none, has a sample at the place, and who has the channel goes on past it
 pub record Landed (session : Session) (frame channel : ℕ) (clients : List (AtPort × Client)) (claims : List Claim) (p : ℕ) : Type 0 where
@@ -168,9 +139,8 @@ pub record Landed (session : Session) (frame channel : ℕ) (clients : List (AtP
   pub goes : (n : ℕ) → GoesPast channel p (frame_behind session frame by) (KnowsOf frame channel claims by) (at session clients n)
 
 pub record Sole (session : Session) (frame channel : ℕ) (clients : List (AtPort × Client)) (claims : List Claim) (position : ℕ) : Type 0 where
-  pub from : first_frame session.ring ≤ position
   pub owner : HasOneOwner session channel clients claims
-  pub bound : (0 ≤ position) × ((n : ℕ) → IsBound (slice_index_or session.clients n None) (at session clients n).1.own)
+  pub bound : (first_frame session.ring ≤ position) × ((n : ℕ) → IsBound (slice_index_or session.clients n None) (at session clients n).1.own)
   pub landed : Landed session frame channel clients claims position
 
 module _ (session : Session) (frame channel : ℕ) where
@@ -180,162 +150,153 @@ module _ (session : Session) (frame channel : ℕ) where
   abbrev GoesBehind : List Claim → ℕ → Option ℕ → AtPort × Client → Type 0
   GoesBehind claims p by z = GoesPast channel p (frame_behind session frame by) (KnowsOf frame channel claims by) z
 
-  -- a client that doesn't hold the channel while it is open isn't bound to it
-  unbound : (n : ℕ) (x : AtPort × Client) (c : PlaybackStream) → x.1.own ≡ Some c → IsBound (slice_index_or session.clients n None) x.1.own
-      → has_channel c.setup.bindings channel ≡ false → has_channel (bound_of session n) channel ≡ false
-  unbound n x c is bound not = by_setup (slice_index_or session.clients n None) (subst (IsBound (slice_index_or session.clients n None)) is bound)
+  -- a client that doesn't hold the channel while it is open isn't bound to it: its segments have no sample there
+  unbound-same : (n : ℕ) (x : AtPort × Client) (c : PlaybackStream) → x.1.own ≡ Some c → IsBound (slice_index_or session.clients n None) x.1.own
+      → has_channel c.setup.bindings channel ≡ false → (segments others : List Segment) → Count session frame channel n segments ≡ Count session frame channel n others
+  unbound-same n x c is bound not segments others = count-unbound session frame channel n segments none ∙ sym (count-unbound session frame channel n others none)
     where
       by_setup : (setup : Option Setup) → IsBound setup (Some c) → has_channel (bindings_of setup) channel ≡ false
       by_setup None same = refl
       by_setup (Some s) same = subst (λ (l : List ℕ). has_channel l channel ≡ false) same not
 
-  -- so its segments have no sample there
-  unbound-same : (n : ℕ) (segments others : List Segment) → has_channel (bound_of session n) channel ≡ false → Count session frame channel n segments ≡ Count session frame channel n others
-  unbound-same n segments others not = count-unbound session frame channel n segments not ∙ sym (count-unbound session frame channel n others not)
+      none : has_channel (bound_of session n) channel ≡ false
+      none = by_setup (slice_index_or session.clients n None) (subst (IsBound (slice_index_or session.clients n None)) is bound)
 
   -- ---- one client changes
 
-  module _ (clients : List (AtPort × Client)) (claims more : List Claim) (p n : ℕ) (y : AtPort × Client) where
+  module _ (clients : List (AtPort × Client)) (claims : List Claim) (p n : ℕ) (sole : Sole session frame channel clients claims p) where
+    abbrev x : AtPort × Client
+    x = at session clients n
+
+    abbrev landed : LandedIn clients claims p
+    landed = sole.landed
+
+    -- the samples of a client at the place, and what its ended segments have of them
+    abbrev count : Client → ℕ
+    count client = Count session frame channel n client.ended
+
     -- without a sample more, and with other claims, by which no less is known
-    still : (landed : LandedIn clients claims p) → Count session frame channel n y.1.ended ≡ Count session frame channel n (at session clients n).1.ended
-        → (Heard claims channel (frame + 1) → Heard more channel (frame + 1)) → IfSome landed.by (λ t. owner_of more channel ≡ None → Heard more channel (frame + 1))
-        → GoesBehind more p landed.by y → LandedIn (slice_set clients n y) more p
-    still landed count grows known goes = record {
+    still : (more : List Claim) (y : AtPort × Client) → count y.1 ≡ samples_by landed.by n → (Heard claims channel (frame + 1) → Heard more channel (frame + 1))
+        → IfSome landed.by (λ t. owner_of more channel ≡ None → Heard more channel (frame + 1)) → GoesBehind more p landed.by y → LandedIn (slice_set clients n y) more p
+    still more y same grows known goes = record {
       by = landed.by;
-      counts = set-so session (λ m z. Count session frame channel m z.1.ended ≡ samples_by landed.by m) clients n y (count ∙ landed.counts n) (λ m not. landed.counts m);
+      counts = set-so session (λ m z. Count session frame channel m z.1.ended ≡ samples_by landed.by m) clients n y same (λ m not. landed.counts m);
       low = landed.low;
       known = known;
       goes = set-so session (λ m z. GoesBehind more p landed.by z) clients n y goes
-          (λ m not. goes-map channel p p (frame_behind session frame landed.by) (KnowsOf frame channel claims landed.by) (KnowsOf frame channel more landed.by) (at session clients m) (omega arith)
-          (further landed.by) (landed.goes m));
+          (λ m not. goes-map (omega arith) (λ e is. IfSome_then landed.by is (λ t. further e)) (landed.goes m));
     }
       where
-        further : (by : Option ℕ) (e : ℕ) → KnowsOf frame channel claims by e → KnowsOf frame channel more by e
-        further None e is = tt
-        further (Some t) e (inl heard) = inl (grows heard)
-        further (Some t) e (inr high) = inr high
-
-    -- of a client that hadn't the channel, and hasn't it now
-    idle-still : (landed : LandedIn clients claims p) → Count session frame channel n y.1.ended ≡ Count session frame channel n (at session clients n).1.ended
-        → (Heard claims channel (frame + 1) → Heard more channel (frame + 1)) → owner_of more channel ≡ owner_of claims channel → (HoldsChannel channel y → ⊥) → LandedIn (slice_set clients n y) more p
-    idle-still landed count grows owner not = still landed count grows (known landed.by landed.known)
-        (goes-not channel p (frame_behind session frame landed.by) (KnowsOf frame channel more landed.by) y not)
-      where
-        known : (by : Option ℕ) → IfSome by (λ t. owner_of claims channel ≡ None → Heard claims channel (frame + 1)) → IfSome by (λ t. owner_of more channel ≡ None → Heard more channel (frame + 1))
-        known None is = tt
-        known (Some t) is = λ none. grows (is (sym owner ∙ none))
+        further : (e : ℕ) → Heard claims channel (frame + 1) ⊎ (frame + 1 ≤ e) → Heard more channel (frame + 1) ⊎ (frame + 1 ≤ e)
+        further e (inl heard) = inl (grows heard)
+        further e (inr high) = inr high
 
     -- the client that has the channel placed the sample
-    now : HasOneOwner session channel clients claims → n < length clients → HoldsChannel channel (at session clients n) → (by : Option ℕ)
-        → ((m : ℕ) → Count session frame channel m (at session clients m).1.ended ≡ samples_by by m) → frame_behind session frame by ≤ frame
-        → Count session frame channel n y.1.ended ≡ samples_by by n + 1 → (first_frame session.ring ≤ frame → owner_of more channel ≡ None → Heard more channel (frame + 1))
+    now : (more : List Claim) (y : AtPort × Client) → n < length clients → HoldsChannel channel x → frame_behind session frame landed.by ≤ frame
+        → count y.1 ≡ samples_by landed.by n + 1 → (first_frame session.ring ≤ frame → owner_of more channel ≡ None → Heard more channel (frame + 1))
         → GoesBehind more p (Some n) y → LandedIn (slice_set clients n y) more p
-    now owner within holds (Some t) counts low one known goes = absurd (omega (arith, low))
-    now owner within holds None counts low one known goes = record {
-      by = Some n;
-      counts = set-so session (λ m z. Count session frame channel m z.1.ended ≡ samples_by (Some n) m) clients n y (rw (eq-eqb n n refl) one)
-          (λ m not. counts m ∙ sym (other m (λ same. not same within)));
-      low = low;
-      known = known low;
-      goes = set-so session (λ m z. GoesBehind more p (Some n) z) clients n y goes
-          (λ m not. goes-not channel p (frame + 1) (KnowsOf frame channel more (Some n)) (at session clients m) (λ also. not (owner.only n m holds also) within));
-    }
+    now more y within holds low one known goes = by_who landed.by landed.counts low one
       where
         other : (m : ℕ) → (n ≡ m → ⊥) → samples_by (Some n) m ≡ 0
-        other m not = by_test (nat_eq n m) refl
+        other m not = grind (arith, nat_tests, not)
+
+        by_who : (by : Option ℕ) → ((m : ℕ) → Count session frame channel m (at session clients m).1.ended ≡ samples_by by m) → frame_behind session frame by ≤ frame
+            → count y.1 ≡ samples_by by n + 1 → LandedIn (slice_set clients n y) more p
+        by_who (Some t) counts low one = absurd (omega (arith, low))
+        by_who None counts low one = record {
+          by = Some n;
+          counts = set-so session (λ m z. Count session frame channel m z.1.ended ≡ samples_by (Some n) m) clients n y (rw (eq-eqb n n refl) one)
+              (λ m not. counts m ∙ sym (other m (λ same. not same within)));
+          low = low;
+          known = known low;
+          goes = set-so session (λ m z. GoesBehind more p (Some n) z) clients n y goes (λ m not. goes-not (λ also. not (sole.owner.only n m holds also) within));
+        }
+
+    -- ---- a line
+
+    line-landed : (rules : Rules) (phase : ℕ) (y : AtPort × Client) (asked : Op) (answer : Answer) → ((q : ℕ) → Contains rules.published q → p ≤ q) → n < length clients
+        → LineMay (kind_at session phase n) rules x asked y answer → LandedIn (slice_set clients n y) claims p
+    line-landed rules phase y asked answer least within may = by_own x.1.own refl
+      where
+        idle : count y.1 ≡ count x.1 → has_channel (channels_of_client x.1.own) channel ≡ false → LandedIn (slice_set clients n y) claims p
+        idle same not = still claims y (same ∙ landed.counts n) (λ heard. heard) landed.known
+            (goes-not (λ has. false≢true (sym not ∙ line-part rules phase (slice_index_or session.sounds n no_sound) n x.0 y.0 x.1 y.1 asked answer may channel has)))
+
+        held : (c : PlaybackStream) → x.1.own ≡ Some c → Has c.setup.bindings channel → LandedIn (slice_set clients n y) claims p
+        held c is has = let was = (landed.goes n).by c is has in by_end was.0 was.1
+            (line-comes session frame channel rules p least phase n (frame_behind session frame landed.by) was.0 (samples_by landed.by n) x y asked answer c is was.2 may (landed.counts n))
           where
-            by_test : (b : Bool) → nat_eq n m ≡ b → ◌≡◌ {A = ℕ} (if b then 1 else 0) 0
-            by_test true is = absurd (not (eqb-true n m is))
-            by_test false is = refl
+            holds : HoldsChannel channel x
+            holds = subst (λ (o : Option PlaybackStream). Has (channels_of_client o) channel) (sym is) has
 
-  -- ---- a line
+            by_end : (e : ℕ) → KnowsOf frame channel claims landed.by e → LineEnd session frame channel p n (frame_behind session frame landed.by) e (samples_by landed.by n) y
+                → LandedIn (slice_set clients n y) claims p
+            by_end e known (inl (same, goes)) = still claims y same (λ heard. heard) landed.known (goes-open e known goes)
+            by_end e known (inr (low, one, goes)) = now claims y within holds low one
+                (λ first none. absurd (false≢true (sym (ap is_some none) ∙ sole.owner.owned n holds))) (goes-open (frame + 1) (inr (omega arith)) goes)
 
-  line-landed : (rules : Rules) (phase : ℕ) (clients : List (AtPort × Client)) (claims : List Claim) (p n : ℕ) (y : AtPort × Client) (asked : Op) (answer : Answer)
-      → ((q : ℕ) → Contains rules.published q → p ≤ q) → n < length clients → LineMay (kind_at session phase n) rules (at session clients n) asked y answer
-      → Sole session frame channel clients claims p → LandedIn (slice_set clients n y) claims p
-  line-landed rules phase clients claims p n y asked answer least within may sole = by_own x.1.own refl
-    where
-      x : AtPort × Client
-      x = at session clients n
+        by_channel : (c : PlaybackStream) → x.1.own ≡ Some c → (b : Bool) → has_channel c.setup.bindings channel ≡ b → LandedIn (slice_set clients n y) claims p
+        by_channel c is true has = held c is has
+        by_channel c is false not = idle (unbound-same n x c is (sole.bound.1 n) not y.1.ended x.1.ended) (rw is not)
 
-      landed : LandedIn clients claims p
-      landed = sole.landed
+        by_own : (own : Option PlaybackStream) → x.1.own ≡ own → LandedIn (slice_set clients n y) claims p
+        by_own None is = idle (ap count (still-client rules phase (slice_index_or session.sounds n no_sound) n x.0 y.0 x.1 y.1 asked answer is may)) (rw is refl)
+        by_own (Some c) is = by_channel c is (has_channel c.setup.bindings channel) refl
 
-      idle : Count session frame channel n y.1.ended ≡ Count session frame channel n x.1.ended → has_channel (channels_of_client x.1.own) channel ≡ false
-          → LandedIn (slice_set clients n y) claims p
-      idle count not = idle-still clients claims claims p n y landed count (λ heard. heard) refl
-          (λ has. false≢true (sym not ∙ line-part rules phase (slice_index_or session.sounds n no_sound) n x.0 y.0 x.1 y.1 asked answer may channel has))
+    -- ---- a client ends
 
-      held : (c : PlaybackStream) → x.1.own ≡ Some c → Has c.setup.bindings channel → LandedIn (slice_set clients n y) claims p
-      held c is has = let was = landed.goes n c is has in by_end was.0 was.1
-          (line-comes session frame channel rules p least phase n (frame_behind session frame landed.by) was.0 (samples_by landed.by n) x y asked answer c is was.2 may (landed.counts n))
-        where
-          holds : HoldsChannel channel x
-          holds = subst (λ (o : Option PlaybackStream). Has (channels_of_client o) channel) (sym is) has
+    -- the segments of a client with that of its present stretch: one sample more only where no other has one, and it holds the channel
+    abbrev Present : Option ℕ → Type 0
+    Present by = (Count session frame channel n (segments_of x.1) ≡ samples_by by n)
+        ⊎ ((frame_behind session frame by ≤ frame) × (Count session frame channel n (segments_of x.1) ≡ samples_by by n + 1) × HoldsChannel channel x × (frame + 1 ≤ high_end x.0.marks))
 
-          by_end : (e : ℕ) → KnowsOf frame channel claims landed.by e → LineEnd session frame channel p n (frame_behind session frame landed.by) e (samples_by landed.by n) y
-              → LandedIn (slice_set clients n y) claims p
-          by_end e known (inl (same, goes)) = still clients claims claims p n y landed (same ∙ sym (landed.counts n)) (λ heard. heard) landed.known
-              (goes-open channel p (frame_behind session frame landed.by) e (KnowsOf frame channel claims landed.by) y known goes)
-          by_end e known (inr (low, one, goes)) = now clients claims claims p n y sole.owner within holds landed.by landed.counts low one
-              (λ first none. absurd (false≢true (sym (ap is_some none) ∙ sole.owner.owned n holds)))
-              (goes-open channel p (frame + 1) (frame + 1) (KnowsOf frame channel claims (Some n)) y (inr (omega arith)) goes)
+    present : Present landed.by
+    present = by_own x.1.own refl
+      where
+        held : (c : PlaybackStream) → x.1.own ≡ Some c → Has c.setup.bindings channel
+            → Comes session frame channel n (frame_behind session frame landed.by) (samples_by landed.by n) (segments_of x.1) (high_end x.0.marks) → Present landed.by
+        held c is has (inl none) = inl none
+        held c is has (inr (low, one, high)) = inr (low, one, subst (λ (o : Option PlaybackStream). Has (channels_of_client o) channel) (sym is) has, high)
 
-      by_channel : (c : PlaybackStream) → x.1.own ≡ Some c → (b : Bool) → has_channel c.setup.bindings channel ≡ b → LandedIn (slice_set clients n y) claims p
-      by_channel c is true has = held c is has
-      by_channel c is false not = idle (unbound-same n y.1.ended x.1.ended (unbound n x c is (sole.bound.1 n) not)) (rw is not)
+        by_channel : (c : PlaybackStream) → x.1.own ≡ Some c → (has : Bool) → has_channel c.setup.bindings channel ≡ has → Present landed.by
+        by_channel c is true has = let was = (landed.goes n).by c is has in
+            held c is has (end-comes session frame channel p n (frame_behind session frame landed.by) was.0 (samples_by landed.by n) x c is was.2 (landed.counts n))
+        by_channel c is false not = inl (unbound-same n x c is (sole.bound.1 n) not (segments_of x.1) x.1.ended ∙ landed.counts n)
 
-      by_own : (own : Option PlaybackStream) → x.1.own ≡ own → LandedIn (slice_set clients n y) claims p
-      by_own None is = idle (ap (λ (z : Client). Count session frame channel n z.ended)
-          (still-client rules phase (slice_index_or session.sounds n no_sound) n x.0 y.0 x.1 y.1 asked answer is may)) (rw is refl)
-      by_own (Some c) is = by_channel c is (has_channel c.setup.bindings channel) refl
+        by_own : (own : Option PlaybackStream) → x.1.own ≡ own → Present landed.by
+        by_own None is = inl (ap (λ own. Count session frame channel n (x.1.ended ++ present_of own)) is
+            ∙ ap (λ segments. Count session frame channel n segments) (append-nil x.1.ended) ∙ landed.counts n)
+        by_own (Some c) is = by_channel c is (has_channel c.setup.bindings channel) refl
 
-  -- ---- a client ends
+    end-landed : (c : PlaybackStream) → n < length clients → x.1.own ≡ Some c
+        → LandedIn (slice_set clients n (ended_client session.ring x)) (released c.setup.bindings (high_frame session.ring x.0.marks) ∷ claims) p
+    end-landed c within is = by_present present
+      where
+        more : List Claim
+        more = released c.setup.bindings (high_frame session.ring x.0.marks) ∷ claims
 
-  end-landed : (clients : List (AtPort × Client)) (claims : List Claim) (p n : ℕ) (c : PlaybackStream) → n < length clients → (at session clients n).1.own ≡ Some c
-      → Sole session frame channel clients claims p
-      → LandedIn (slice_set clients n (ended_client session.ring (at session clients n)))
-      (released c.setup.bindings (high_frame session.ring (at session clients n).0.marks) ∷ claims) p
-  end-landed clients claims p n c within is sole = by_channel (has_channel c.setup.bindings channel) refl
-    where
-      x : AtPort × Client
-      x = at session clients n
+        grows : Heard claims channel (frame + 1) → Heard more channel (frame + 1)
+        grows = released-heard c.setup.bindings (high_frame session.ring x.0.marks) claims channel (frame + 1)
 
-      y : AtPort × Client
-      y = ended_client session.ring x
+        by_high : Has c.setup.bindings channel → frame + 1 ≤ high_end x.0.marks → first_frame session.ring ≤ frame → Heard more channel (frame + 1)
+        by_high has high low = high-heard session.ring x.0.marks c.setup.bindings claims channel (frame + 1) has (omega (arith, low)) high
 
-      more : List Claim
-      more = released c.setup.bindings (high_frame session.ring x.0.marks) ∷ claims
+        by_ends : Has c.setup.bindings channel → (by : Option ℕ) (e : ℕ) → KnowsOf frame channel claims by e → e ≤ high_end x.0.marks → IfSome by (λ t. first_frame session.ring ≤ frame)
+            → IfSome by (λ t. owner_of more channel ≡ None → Heard more channel (frame + 1))
+        by_ends has None e is high low = tt
+        by_ends has (Some t) e (inl heard) high low = λ none. grows heard
+        by_ends has (Some t) e (inr after) high low = λ none. by_high has (omega (arith, after, high)) low
 
-      landed : LandedIn clients claims p
-      landed = sole.landed
+        known : (b : Bool) → has_channel c.setup.bindings channel ≡ b → IfSome landed.by (λ t. owner_of more channel ≡ None → Heard more channel (frame + 1))
+        known true has = let was = (landed.goes n).by c is has in
+            by_ends has landed.by was.0 was.1 (reached p (frame_behind session frame landed.by) was.0 x.0.marks c was.2).1.high landed.low
+        known false not = let owner : owner_of more channel ≡ owner_of claims channel = rw not refl in
+            IfSome_then landed.by landed.known (λ t heard none. grows (heard (sym owner ∙ none)))
 
-      grows : Heard claims channel (frame + 1) → Heard more channel (frame + 1)
-      grows = released-heard c.setup.bindings (high_frame session.ring x.0.marks) claims channel (frame + 1)
-
-      held : Has c.setup.bindings channel → LandedIn (slice_set clients n y) more p
-      held has = let was = landed.goes n c is has in by_end was.0 was.1 (reached p session.ring (frame_behind session frame landed.by) was.0 x.0.marks c was.2).2
-          (end-comes session frame channel p n (frame_behind session frame landed.by) was.0 (samples_by landed.by n) x c is was.2 (landed.counts n))
-        where
-          by_high : frame + 1 ≤ high_end x.0.marks → first_frame session.ring ≤ frame → Heard more channel (frame + 1)
-          by_high high low = high-heard session.ring x.0.marks c.setup.bindings claims channel (frame + 1) has (omega (arith, low)) high
-
-          still-known : (by : Option ℕ) (e : ℕ) → KnowsOf frame channel claims by e → e ≤ high_end x.0.marks → IfSome by (λ t. first_frame session.ring ≤ frame)
-              → IfSome by (λ t. owner_of more channel ≡ None → Heard more channel (frame + 1))
-          still-known None e is high low = tt
-          still-known (Some t) e (inl heard) high low = λ none. grows heard
-          still-known (Some t) e (inr after) high low = λ none. by_high (omega (arith, after, high)) low
-
-          by_end : (e : ℕ) → KnowsOf frame channel claims landed.by e → e ≤ high_end x.0.marks
-              → Comes session frame channel n (frame_behind session frame landed.by) (samples_by landed.by n) (segments_of x.1) (high_end x.0.marks) → LandedIn (slice_set clients n y) more p
-          by_end e known high (inl same) = still clients claims more p n y landed (same ∙ sym (landed.counts n)) grows (still-known landed.by e known high landed.low)
-              (goes-not channel p (frame_behind session frame landed.by) (KnowsOf frame channel more landed.by) y false≢true)
-          by_end e known high (inr (low, one, end)) = now clients claims more p n y sole.owner within (subst (λ (o : Option PlaybackStream). Has (channels_of_client o) channel) (sym is) has)
-              landed.by landed.counts low one (λ first none. by_high end first) (goes-not channel p (frame + 1) (KnowsOf frame channel more (Some n)) y false≢true)
-
-      by_channel : (b : Bool) → has_channel c.setup.bindings channel ≡ b → LandedIn (slice_set clients n y) more p
-      by_channel true has = held has
-      by_channel false not = idle-still clients claims more p n y landed (unbound-same n (segments_of x.1) x.1.ended (unbound n x c is (sole.bound.1 n) not)) grows (rw not refl) false≢true
+        by_present : Present landed.by → LandedIn (slice_set clients n (ended_client session.ring x)) more p
+        by_present (inl same) = still more (ended_client session.ring x) same grows (known (has_channel c.setup.bindings channel) refl) (goes-not false≢true)
+        by_present (inr (low, one, holds, high)) = now more (ended_client session.ring x) within holds low one
+            (λ first none. by_high (subst (λ (o : Option PlaybackStream). Has (channels_of_client o) channel) is holds) high first) (goes-not false≢true)
 
   -- ---- an opening
 
@@ -344,7 +305,7 @@ module _ (session : Session) (frame channel : ℕ) where
         → AreFree claims p setup.bindings → Sole session frame channel clients claims p
         → LandedIn (slice_set clients n (client_opened session clients n setup)) (claimed setup.bindings ∷ claims) p
     open-landed clients claims p n setup is free sole =
-        still clients claims (claimed setup.bindings ∷ claims) p n y sole.landed refl (λ heard. heard) (known sole.landed.by sole.landed.known) (goes sole.landed.by sole.landed.known)
+        still clients claims p n sole (claimed setup.bindings ∷ claims) y (sole.landed.counts n) (λ heard. heard) (IfSome_then sole.landed.by sole.landed.known (λ t was. known was)) (goes sole.landed.by sole.landed.known)
       where
         y : AtPort × Client
         y = client_opened session clients n setup
@@ -358,32 +319,30 @@ module _ (session : Session) (frame channel : ℕ) where
           still = refl;
           none = refl;
           no_part = refl;
-          low = least e (free_frame (start_marks session.ring)) past;
-          top = omega arith;
-          high = omega arith;
+          reached = record { low = least e (free_frame (start_marks session.ring)) past; top = omega arith; high = omega arith };
         })
 
-        known : (by : Option ℕ) → IfSome by (λ t. owner_of claims channel ≡ None → Heard claims channel (frame + 1))
-            → IfSome by (λ t. owner_of (claimed setup.bindings ∷ claims) channel ≡ None → Heard claims channel (frame + 1))
-        known None was = tt
-        known (Some t) was = by_claim (has_channel setup.bindings channel)
+        known : (owner_of claims channel ≡ None → Heard claims channel (frame + 1)) → owner_of (claimed setup.bindings ∷ claims) channel ≡ None → Heard claims channel (frame + 1)
+        known was = by_claim (has_channel setup.bindings channel)
           where
             by_claim : (b : Bool) → (if b then Some (length claims) else owner_of claims channel) ≡ None → Heard claims channel (frame + 1)
             by_claim true none = absurd (cc)
             by_claim false none = was none
 
         goes : (by : Option ℕ) → IfSome by (λ t. owner_of claims channel ≡ None → Heard claims channel (frame + 1)) → GoesBehind claims p by y
-        goes None was = goes-open channel p (first_frame session.ring) 0 (KnowsOf frame channel claims None) y tt (waits (first_frame session.ring) sole.from)
-        goes (Some t) was = λ c own has.
-            let at_channel = free-at claims p setup.bindings channel free (subst (λ (o : Option PlaybackStream). Has (channels_of_client o) channel) (sym own) has) in
-            let heard = was at_channel.unowned in
-            goes-open channel p (frame + 1) 0 (KnowsOf frame channel claims (Some t)) y (inl heard) (waits (frame + 1) (heard p at_channel.silent)) c own has
+        goes None was = goes-open 0 tt (waits (first_frame session.ring) sole.bound.0)
+        goes (Some t) was = record {
+          by = λ c own has.
+              let at_channel = free-at claims p setup.bindings channel free (subst (λ (o : Option PlaybackStream). Has (channels_of_client o) channel) (sym own) has) in
+              let heard = was at_channel.unowned in
+              (0, inl heard, subst (λ o. InOpen o (Onward p (frame + 1) 0 y.0.marks)) own (waits (frame + 1) (heard p at_channel.silent)));
+        }
 
     -- ---- each stage of a run
 
     module _ (share : session.card.share ≡ Dshare) (owners : (claims : List Claim) (channels : List ℕ) (position : ℕ) → ClaimIsOwners claims channels position) where
-      bounds : IsLasting session (λ clients claims p. (0 ≤ p) × ((n : ℕ) → IsBound (slice_index_or session.clients n None) (at session clients n).1.own))
-      bounds = each-from session 0 (OfNumber IsClientBound clients-bound session) (by-number IsClientBound clients-bound session)
+      bounds : IsLasting session (λ clients claims p. (first_frame session.ring ≤ p) × ((n : ℕ) → IsBound (slice_index_or session.clients n None) (at session clients n).1.own))
+      bounds = each-from session (first_frame session.ring) (IsNumberBound session) (clients-bound session (first_frame session.ring))
 
       owns : IsLasting session (λ clients claims p. HasOneOwner session channel clients claims)
       owns = one-owner session channel share owners
@@ -391,36 +350,31 @@ module _ (session : Session) (frame channel : ℕ) where
       pub sole-held : IsLasting session (Sole session frame channel)
       sole-held = record {
         line = λ rules phase clients claims p n y asked answer least within may sole. record {
-          from = sole.from;
           owner = owns.line rules phase clients claims p n y asked answer least within may sole.owner;
           bound = bounds.line rules phase clients claims p n y asked answer least within may sole.bound;
-          landed = line-landed rules phase clients claims p n y asked answer least within may sole;
+          landed = line-landed clients claims p n sole rules phase y asked answer least within may;
         };
         opens = λ clients claims p n setup is closed granted sole. record {
-          from = sole.from;
           owner = owns.opens clients claims p n setup is closed granted sole.owner;
           bound = bounds.opens clients claims p n setup is closed granted sole.bound;
           landed = subst (λ s. LandedIn (slice_set clients n (client_opened session clients n setup)) (with_claim s setup.bindings claims) p) (sym share)
               (open-landed clients claims p n setup is (granted-free session channel share owners claims setup.bindings p granted) sole);
         };
         ends = λ clients claims p n c within is sole. record {
-          from = sole.from;
           owner = owns.ends clients claims p n c within is sole.owner;
           bound = bounds.ends clients claims p n c within is sole.bound;
           landed = subst (λ s. LandedIn (slice_set clients n (ended_client session.ring (at session clients n)))
-              (with_release s c.setup.bindings (high_frame session.ring (at session clients n).0.marks) claims) p) (sym share) (end-landed clients claims p n c within is sole);
+              (with_release s c.setup.bindings (high_frame session.ring (at session clients n).0.marks) claims) p) (sym share) (end-landed clients claims p n sole c within is);
         };
         later = λ clients claims p q after sole. record {
-          from = omega (arith, sole.from, after);
           owner = sole.owner;
-          bound = (omega arith, sole.bound.1);
+          bound = bounds.later clients claims p q after sole.bound;
           landed = record {
             by = sole.landed.by;
             counts = sole.landed.counts;
             low = sole.landed.low;
             known = sole.landed.known;
-            goes = λ n. goes-map channel p q (frame_behind session frame sole.landed.by) (KnowsOf frame channel claims sole.landed.by) (KnowsOf frame channel claims sole.landed.by)
-                (at session clients n) after (λ e is. is) (sole.landed.goes n);
+            goes = λ n. goes-map after (λ e is. is) (sole.landed.goes n);
           };
         };
       }
@@ -428,15 +382,14 @@ module _ (session : Session) (frame channel : ℕ) where
       pub first-sole : first_frame session.ring ≤ (first_stage session).position
           → (let stage : Stage = first_stage session in Sole session frame channel stage.clients stage.claims stage.position)
       first-sole from = record {
-        from = from;
         owner = first-owner session channel;
-        bound = (omega arith, λ n. subst (λ (z : AtPort × Client). IsBound (slice_index_or session.clients n None) z.1.own) (sym (none n)) (clients-bound.never (slice_index_or session.clients n None)));
+        bound = first-each session (first_frame session.ring) (IsNumberBound session) (clients-bound session (first_frame session.ring)) from;
         landed = record {
           by = None;
           counts = λ n. subst (λ (z : AtPort × Client). Count session frame channel n z.1.ended ≡ 0) (sym (none n)) refl;
           low = tt;
           known = tt;
-          goes = λ n. subst (λ (z : AtPort × Client). GoesBehind [] (first_stage session).position None z) (sym (none n)) (λ c is has. absurd (cc));
+          goes = λ n. subst (λ (z : AtPort × Client). GoesBehind [] (first_stage session).position None z) (sym (none n)) (record { by = λ c is has. absurd (cc) });
         };
       }
         where
@@ -445,54 +398,25 @@ module _ (session : Session) (frame channel : ℕ) where
 
   -- ---- at the end of a run
 
-  -- the segments of a client with that of its present stretch: one sample more only where no other has one, and it holds the channel
-  abbrev Present : Option ℕ → ℕ → AtPort × Client → Type 0
-  Present by n z = (Count session frame channel n (segments_of z.1) ≡ samples_by by n)
-      ⊎ ((frame_behind session frame by ≤ frame) × (Count session frame channel n (segments_of z.1) ≡ samples_by by n + 1) × HoldsChannel channel z)
-
-  present : (clients : List (AtPort × Client)) (claims : List Claim) (p : ℕ) (sole : Sole session frame channel clients claims p) (n : ℕ) → Present sole.landed.by n (at session clients n)
-  present clients claims p sole n = by_own z.1.own refl
-    where
-      z : AtPort × Client
-      z = at session clients n
-
-      landed : LandedIn clients claims p
-      landed = sole.landed
-
-      held : (c : PlaybackStream) → z.1.own ≡ Some c → Has c.setup.bindings channel
-          → Comes session frame channel n (frame_behind session frame landed.by) (samples_by landed.by n) (segments_of z.1) (high_end z.0.marks) → Present landed.by n z
-      held c is has (inl none) = inl none
-      held c is has (inr (low, one, high)) = inr (low, one, subst (λ (o : Option PlaybackStream). Has (channels_of_client o) channel) (sym is) has)
-
-      by_channel : (c : PlaybackStream) → z.1.own ≡ Some c → (has : Bool) → has_channel c.setup.bindings channel ≡ has → Present landed.by n z
-      by_channel c is true has = let was = landed.goes n c is has in
-          held c is has (end-comes session frame channel p n (frame_behind session frame landed.by) was.0 (samples_by landed.by n) z c is was.2 (landed.counts n))
-      by_channel c is false not = inl (unbound-same n (segments_of z.1) z.1.ended (unbound n z c is (sole.bound.1 n) not) ∙ landed.counts n)
-
-      by_own : (own : Option PlaybackStream) → z.1.own ≡ own → Present landed.by n z
-      by_own None is = inl (ap (λ own. Count session frame channel n (z.1.ended ++ present_of own)) is
-          ∙ ap (λ segments. Count session frame channel n segments) (append-nil z.1.ended) ∙ landed.counts n)
-      by_own (Some c) is = by_channel c is (has_channel c.setup.bindings channel) refl
-
   pub sole-once : (clients : List (AtPort × Client)) (claims : List Claim) (p : ℕ) → Sole session frame channel clients claims p
       → length (laid.at (entries_of session (all_segments clients)) frame channel) ≤ 1
-  sole-once clients claims p sole = by_who sole.landed.by (present clients claims p sole)
+  sole-once clients claims p sole = by_who sole.landed.by (λ n. present clients claims p n sole)
     where
       heard : ℕ → List ℤ
       heard n = heard_by session frame channel n (segments_of (at session clients n).1)
 
-      by_who : (by : Option ℕ) → ((n : ℕ) → Present by n (at session clients n)) → length (laid.at (entries_of session (all_segments clients)) frame channel) ≤ 1
+      by_who : (by : Option ℕ) → ((n : ℕ) → Present clients claims p n sole by) → length (laid.at (entries_of session (all_segments clients)) frame channel) ≤ 1
       by_who None each = all-once session frame channel clients (λ n. HoldsChannel channel (at session clients n)) sole.owner.only (λ n. by_free n (each n))
         where
-          by_free : (n : ℕ) → Present None n (at session clients n) → IsOne (heard n) (HoldsChannel channel (at session clients n))
+          by_free : (n : ℕ) → Present clients claims p n sole None → IsOne (heard n) (HoldsChannel channel (at session clients n))
           by_free n (inl none) = inl none
-          by_free n (inr (low, one, holds)) = inr (one, holds)
+          by_free n (inr (low, one, holds, high)) = inr (one, holds)
       by_who (Some t) each = all-once session frame channel clients (λ n. t ≡ n) (λ n m one two. sym one ∙ two) (λ n. by_taken n (each n))
         where
           by_test : (n : ℕ) (b : Bool) → nat_eq t n ≡ b → length (heard n) ≡ (if b then 1 else 0) → IsOne (heard n) (t ≡ n)
           by_test n true is one = inr (one, eqb-true t n is)
           by_test n false is none = inl none
 
-          by_taken : (n : ℕ) → Present (Some t) n (at session clients n) → IsOne (heard n) (t ≡ n)
+          by_taken : (n : ℕ) → Present clients claims p n sole (Some t) → IsOne (heard n) (t ≡ n)
           by_taken n (inl same) = by_test n (nat_eq t n) refl same
-          by_taken n (inr (low, one, holds)) = absurd (omega (arith, low))
+          by_taken n (inr (low, one, holds, high)) = absurd (omega (arith, low))

@@ -1,16 +1,14 @@
--- What is so of a run's clients, claims and position in each of its stages; and what is kept of each client, with its setup or its number.
+-- What is so of a run's clients, claims and position in each of its stages; and what is kept of each client, by its number.
 use Rattle.run_laws.specs.Prelude.{ap, arith, length, List, None, Option, refl, Some, subst, sym, ℕ, [], ◌++◌, ◌+◌, ◌-◌, ◌<◌, ◌∙◌, ◌∷◌, ◌≡◌, ◌≤◌, false≢true}
-use Rattle.run_laws.specs.Prelude.{append_assoc, get_or-append_right, length-append, set-append_right, Bool, Contains, Err, false, map, Ok, Result}
-use Rattle.run_laws.specs.Prelude.{slice_index_or, slice_set, suc, true, zero, ⊤, PcmError, Geometry, ClaimRow as Claim, PlaybackStream, Sound, Item, Op}
-use Rattle.run_laws.specs.Prelude.{Answer, Row, first_frame, claim_refusal, with_claim, Client, client_kind, segments_of, client_kinds, Held, held_after}
-use Rattle.run_laws.specs.Prelude.{held_of, held_without, is_stopped, ItemMay, ItemsMay, no_sound, reaped_client, reaped_client_if, reaped_one, rules_of}
-use Rattle.run_laws.specs.Prelude.{EachMay, Kind, LineMay, LinesMay, is_client, ops_by, after_attach, Lobby, AtPort, Rules, attached_client, claimed_client}
-use Rattle.run_laws.specs.Prelude.{claims_without, client_at, close_client, close_reader, ended_client, first_stage, no_client, open_client, open_client_with}
-use Rattle.run_laws.specs.Prelude.{open_reader, open_reader_with, opened_client, reader_at, renewed_port, Session, Setup, Stage}
+use Rattle.run_laws.specs.Prelude.{append_assoc, get_or-append_right, length-append, set-append_right, Bool, Contains, false, map, slice_index_or, slice_set}
+use Rattle.run_laws.specs.Prelude.{suc, true, zero, ClaimRow as Claim, PlaybackStream, Actor, Item, Op, Answer, Row, first_frame, claim_refusal, with_claim}
+use Rattle.run_laws.specs.Prelude.{Client, client_kind, segments_of, client_kinds, Held, held_after, held_of, held_without, is_stopped, ItemMay, ItemsMay}
+use Rattle.run_laws.specs.Prelude.{no_sound, reaped_client, reaped_client_if, reaped_one, rules_of, EachMay, Kind, LineMay, LinesMay, is_client, ops_by, AtPort}
+use Rattle.run_laws.specs.Prelude.{Rules, claims_without, ended_client, first_stage, no_client, opened_client, renewed_port, Session, Setup, Stage, AtBorder}
+use Rattle.run_laws.specs.Prelude.{closes-to, opens-to}
 use Rattle.run_laws.proofs.Published.{published-past}
-use Rattle.dsnoop_client.specs.declared.stream.CaptureStream as reading
-use Rattle.lab_lines.specs.declared.line.Actor.TheVariants as actor
 use Rattle.lab_lines.specs.declared.line.Item.TheVariants as item
+use Rattle.lab_lines.specs.declared.line.Op.TheVariants as op
 
 -- ---- the clients of a run
 
@@ -63,17 +61,23 @@ middle-set done rest n x y is = set-append_right done (x ∷ rest) n n y is (ome
 pub next-within : {X : Type 0} (done rest : List X) (n : ℕ) (x : X) → length done ≡ n → n < length (done ++ x ∷ rest)
 next-within done rest n x is = omega (arith, length-append done (x ∷ rest), is)
 
+-- a fact of an actor stays so by each line of some, where it does by one
+pub lines-last : {S : Type 0} (kind : Kind S) (rules : Rules) (J : AtPort × S → Type 0)
+    → ((x y : AtPort × S) (asked : Op) (answer : Answer) → LineMay kind rules x asked y answer → J x → J y)
+    → (x y : AtPort × S) (ops : List Op) (rows : List Row) → LinesMay kind rules x ops y rows → J x → J y
+lines-last kind rules J line x y [] rows (same, none) so = subst J (sym same) so
+lines-last kind rules J line x y (asked ∷ ops) rows (between, answer, others, may, more, are) so =
+    lines-last kind rules J line between y ops others more (line x between asked answer may so)
+
 -- a fact of the actors of a kind stays so by each line of one of them, so by all lines of all of them
 module _ {S : Type 0} (kind : ℕ → Kind S) (rules : Rules) (d : AtPort × S) (J : List (AtPort × S) → Type 0)
     (line : (xs : List (AtPort × S)) (n : ℕ) (y : AtPort × S) (asked : Op) (answer : Answer) → n < length xs → LineMay (kind n) rules (slice_index_or xs n d) asked y answer
     → J xs → J (slice_set xs n y)) where
   lines-walked : (done rest : List (AtPort × S)) (n : ℕ) (x y : AtPort × S) (ops : List Op) (rows : List Row) → length done ≡ n
       → LinesMay (kind n) rules x ops y rows → J (done ++ x ∷ rest) → J (done ++ y ∷ rest)
-  lines-walked done rest n x y [] rows at_n (same, none) so = subst (λ z. J (done ++ z ∷ rest)) (sym same) so
-  lines-walked done rest n x y (asked ∷ ops) rows at_n (between, answer, others, may, more, are) so =
-      lines-walked done rest n between y ops others at_n more (subst J (middle-set done rest n x between at_n)
-      (line (done ++ x ∷ rest) n between asked answer (next-within done rest n x at_n)
-      (subst (λ (z : AtPort × S). LineMay (kind n) rules z asked between answer) (sym (middle-at done rest n x d at_n)) may) so))
+  lines-walked done rest n x y ops rows at_n may so = lines-last (kind n) rules (λ z. J (done ++ z ∷ rest)) (λ z between asked answer one is.
+      subst J (middle-set done rest n z between at_n) (line (done ++ z ∷ rest) n between asked answer (next-within done rest n z at_n)
+      (subst (λ (w : AtPort × S). LineMay (kind n) rules w asked between answer) (sym (middle-at done rest n z d at_n)) one) is)) x y ops rows may so
 
   pub each-walked : (ops : ℕ → List Op) (done xs ys : List (AtPort × S)) (n : ℕ) (rows : List Row) → length done ≡ n
       → EachMay kind rules ops n xs ys rows → J (done ++ xs) → J (done ++ ys)
@@ -130,49 +134,19 @@ module _ (session : Session) (I : List (AtPort × Client) → List Claim → ℕ
   abbrev pub IsSoAt : Stage → Type 0
   IsSoAt stage = I stage.clients stage.claims stage.position
 
-  open-held : (stage : Stage) (n : ℕ) (own : Option PlaybackStream) → (client_at session stage n).1.own ≡ own → IsSoAt stage
-      → IsSoAt (open_client session stage n (client_at session stage n) own)
-  open-held stage n (Some c) is so = so
-  open-held stage n None is so = by_setup (slice_index_or session.clients n None) refl
-    where
-      by_answer : (setup : Setup) → slice_index_or session.clients n None ≡ Some setup → claim_refusal session.card.share stage.claims setup.bindings stage.position ≡ None
-          → (to : Lobby × Result (Unit {0}) PcmError) → IsSoAt (attached_client session stage n setup (client_at session stage n) to)
-      by_answer setup there granted (lobby, Ok done) = held.opens stage.clients stage.claims stage.position n setup there is granted so
-      by_answer setup there granted (lobby, Err e) = so
-
-      by_claim : (setup : Setup) → slice_index_or session.clients n None ≡ Some setup → (refusal : Option PcmError)
-          → claim_refusal session.card.share stage.claims setup.bindings stage.position ≡ refusal → IsSoAt (claimed_client session stage n setup (client_at session stage n) refusal)
-      by_claim setup there (Some e) refused = so
-      by_claim setup there None granted = by_answer setup there granted (after_attach n stage.position stage.lobby)
-
-      by_setup : (setup : Option Setup) → slice_index_or session.clients n None ≡ setup → IsSoAt (open_client_with session stage n setup (client_at session stage n))
-      by_setup None there = so
-      by_setup (Some setup) there = by_claim setup there (claim_refusal session.card.share stage.claims setup.bindings stage.position) refl
-
-  close-held : (stage : Stage) (n : ℕ) (own : Option PlaybackStream) → (client_at session stage n).1.own ≡ own → IsSoAt stage
-      → IsSoAt (close_client session stage n (client_at session stage n) own)
-  close-held stage n None is so = so
-  close-held stage n (Some c) is so = held.ends stage.clients stage.claims stage.position n c (open-within session stage.clients n c is) is so
-
-  reader-opens : (stage : Stage) (n : ℕ) (own : Option reading.CaptureStream) → IsSoAt stage → IsSoAt (open_reader session stage n (reader_at session stage n) own)
-  reader-opens stage n (Some r) so = so
-  reader-opens stage n None so = by_setup (slice_index_or session.readers n None)
-    where
-      by_setup : (setup : Option Setup) → IsSoAt (open_reader_with session stage n setup (reader_at session stage n))
-      by_setup None = so
-      by_setup (Some setup) = so
-
-  reader-closes : (stage : Stage) (n : ℕ) (own : Option reading.CaptureStream) → IsSoAt stage → IsSoAt (close_reader session stage n (reader_at session stage n) own)
-  reader-closes stage n None so = so
-  reader-closes stage n (Some r) so = so
+  border-held : (stage : Stage) (who : Actor) (asked : Op) → IsSoAt stage → AtBorder session stage who asked IsSoAt
+  border-held stage who asked so = record {
+    none = λ card. so;
+    refused = λ lobby e s seen refusal own. so;
+    opens = λ n setup lobby who_is there closed granted. held.opens stage.clients stage.claims stage.position n setup there closed granted so;
+    ends = λ n c who_is is. held.ends stage.clients stage.claims stage.position n c (open-within session stage.clients n c is) is so;
+    reader_opens = λ n setup who_is there. so;
+    reader_ends = λ n seen who_is. so;
+  }
 
   pub item-held : (stage after : Stage) (one : Item) → ItemMay session stage one after → IsSoAt stage → IsSoAt after
-  item-held stage after (item.Opens number actor.Card) is so = rw is so
-  item-held stage after (item.Opens number (actor.Client n)) is so = rw is (open-held stage n (client_at session stage n).1.own refl so)
-  item-held stage after (item.Opens number (actor.Reader n)) is so = rw is (reader-opens stage n (reader_at session stage n).1.own so)
-  item-held stage after (item.Closes number actor.Card) is so = rw is so
-  item-held stage after (item.Closes number (actor.Client n)) is so = rw is (close-held stage n (client_at session stage n).1.own refl so)
-  item-held stage after (item.Closes number (actor.Reader n)) is so = rw is (reader-closes stage n (reader_at session stage n).1.own so)
+  item-held stage after (item.Opens number who) is so = rw is (opens-to session stage IsSoAt who (border-held stage who op.Opens so))
+  item-held stage after (item.Closes number who) is so = rw is (closes-to session stage IsSoAt who (border-held stage who op.Closes so))
   item-held stage after (item.Phase lines) may so = rw may.is (held.later _ _ stage.position _ (omega arith)
       (reaped-held stage.position [] may.clients 0 (held_of stage) refl
       (each-walked (client_kinds session stage) (rules_of session stage lines) (no_client session.ring) (λ clients. I clients stage.claims stage.position)
@@ -221,74 +195,10 @@ module _ (session : Session) (from : ℕ) (P : ℕ → Client → Type 0) (kept 
       past : (p q : ℕ) → from ≤ p → p ≤ q → from ≤ q
       past p q one two = omega (arith, one, two)
 
-  -- each client of a list, the first of which has a number
-  abbrev pub EachOf : ℕ → List (AtPort × Client) → Type 0
-  EachOf number [] = ⊤
-  EachOf number (x ∷ xs) = P number x.1 × EachOf (number + 1) xs
-
-  of-each : (number n i : ℕ) (xs : List (AtPort × Client)) → number + i ≡ n → EachOf number xs → P n (at session xs i).1
-  of-each number n i [] is each = kept.never n
-  of-each number n zero (x ∷ xs) is each = let here : number ≡ n = omega (arith, is) in subst (λ m. P m x.1) here each.0
-  of-each number n (suc i) (x ∷ xs) is each = of-each (number + 1) n i xs (omega (arith, is)) each.1
-
-  each-of : (number : ℕ) (xs : List (AtPort × Client)) → ((i n : ℕ) → number + i ≡ n → P n (at session xs i).1) → EachOf number xs
-  each-of number [] all = tt
-  each-of number (x ∷ xs) all = (all 0 number (omega arith), each-of (number + 1) xs (λ i n is. all (suc i) n (omega (arith, is))))
-
-  to-each : (xs : List (AtPort × Client)) → ((n : ℕ) → P n (at session xs n).1) → EachOf 0 xs
-  to-each xs all = each-of 0 xs (λ i n is. let same : i ≡ n = omega (arith, is) in subst (λ m. P m (at session xs i).1) same (all i))
-
-  pub item-each : (stage after : Stage) (one : Item) → from ≤ stage.position → ItemMay session stage one after → EachOf 0 stage.clients → EachOf 0 after.clients
-  item-each stage after one low may each =
-      to-each after.clients (item-held session EachFrom each-from stage after one may (low, λ n. of-each 0 n n stage.clients (omega arith) each)).1
+  pub first-each : from ≤ first_frame session.card → (let stage : Stage = first_stage session in EachFrom stage.clients stage.claims stage.position)
+  first-each low = (low, λ n. subst (λ (z : AtPort × Client). P n z.1) (sym (first-none session session.clients n)) (kept.never n))
 
   -- each client of a stage that a run reaches
-  pub reached-each : (items : List Item) (stage : Stage) → from ≤ first_frame session.card → ItemsMay session (first_stage session) items stage → EachOf 0 stage.clients
-  reached-each items stage low may = to-each stage.clients (items-held session EachFrom each-from (first_stage session) stage items may
-      (low, λ n. subst (λ (z : AtPort × Client). P n z.1) (sym (first-none session session.clients n)) (kept.never n))).1
-
--- ---- what is kept of each client, by its setup
-
--- a fact of a client with its setup is so of a client that was never open, and stays so by each line, an opening, and where the client ends
-pub record IsKept (P : Option Setup → Client → Type 0) : Type 0 where
-  pub never : (setup : Option Setup) → P setup (record { own = None; ended = [] })
-  pub lines : (rules : Rules) (phase : ℕ) (wav : Sound) (number : ℕ) (setup : Option Setup) (a b : AtPort) (client after : Client) (asked : Op) (answer : Answer)
-      → P setup client → LineMay (client_kind phase wav number) rules (a, client) asked (b, after) answer → P setup after
-  pub opens : (ring : Geometry) (number : ℕ) (setup : Setup) (client : Client) → P (Some setup) client
-      → P (Some setup) (record client { own = Some (opened_client ring number setup) })
-  pub ends : (setup : Option Setup) (client : Client) → P setup client → P setup (record { own = None; ended = segments_of client })
-
-module _ (P : Option Setup → Client → Type 0) (kept : IsKept P) where
-  pub lines-kept : (rules : Rules) (phase : ℕ) (wav : Sound) (number : ℕ) (setup : Option Setup) (x y : AtPort × Client) (ops : List Op) (rows : List Row)
-      → P setup x.1 → LinesMay (client_kind phase wav number) rules x ops y rows → P setup y.1
-  lines-kept rules phase wav number setup x y [] rows is (same, none) = subst (λ (z : AtPort × Client). P setup z.1) (sym same) is
-  lines-kept rules phase wav number setup (a, client) y (asked ∷ ops) rows is ((b, between), answer, others, may, rest, are) =
-      lines-kept rules phase wav number setup (b, between) y ops others (kept.lines rules phase wav number setup a b client between asked answer is may) rest
-
-  abbrev pub OfNumber : Session → ℕ → Client → Type 0
-  OfNumber session number client = P (slice_index_or session.clients number None) client
-
-  pub by-number : (session : Session) → IsKeptFrom session 0 (OfNumber session)
-  by-number session = record {
-    never = λ number. kept.never (slice_index_or session.clients number None);
-    lines = λ rules least phase number a b client after asked answer is may.
-        kept.lines rules phase (slice_index_or session.sounds number no_sound) number (slice_index_or session.clients number None) a b client after asked answer is may;
-    opens = λ number setup there client is. subst (λ (o : Option Setup). P o (record client { own = Some (opened_client session.ring number setup) })) (sym there)
-        (kept.opens session.ring number setup client (subst (λ (o : Option Setup). P o client) there is));
-    ends = λ number client is. kept.ends (slice_index_or session.clients number None) client is;
-  }
-
-  -- each client from a number on
-  abbrev pub AreSo : Session → ℕ → List (AtPort × Client) → Type 0
-  AreSo session number xs = EachOf session 0 (OfNumber session) (by-number session) number xs
-
-  pub item-kept : (session : Session) (stage after : Stage) (one : Item) → AreSo session 0 stage.clients → ItemMay session stage one after → AreSo session 0 after.clients
-  item-kept session stage after one are may = item-each session 0 (OfNumber session) (by-number session) stage after one (omega arith) may are
-
-  -- the clients of a stage that a run reaches
-  pub reached-so : (session : Session) (items : List Item) (stage : Stage) → ItemsMay session (first_stage session) items stage → AreSo session 0 stage.clients
-  reached-so session items stage may = reached-each session 0 (OfNumber session) (by-number session) items stage (omega arith) may
-
-  pub reached-client : (session : Session) (items : List Item) (stage : Stage) (n : ℕ) → ItemsMay session (first_stage session) items stage
-      → P (slice_index_or session.clients n None) (client_at session stage n).1
-  reached-client session items stage n may = of-each session 0 (OfNumber session) (by-number session) 0 n n stage.clients (omega arith) (reached-so session items stage may)
+  pub reached-each : (items : List Item) (stage : Stage) → from ≤ first_frame session.card → ItemsMay session (first_stage session) items stage
+      → EachFrom stage.clients stage.claims stage.position
+  reached-each items stage low may = items-held session EachFrom each-from (first_stage session) stage items may (first-each low)

@@ -1,6 +1,5 @@
-use Rattle.lab_check.specs.Prelude.{ap, arith, length, List, subst, sym, ℕ, ◌*◌, ◌+◌, ◌<◌, ◌∙◌, ◌≡◌, pos, replicate, ℤ, Segment, placed_from}
-use Rattle.lab_check.specs.Prelude.{entries_of_segments, IsSummed, TotalsFit}
-use Rattle.lab_check.proofs.Bounds.{placed_fits, samples-known}
+use Rattle.lab_check.specs.Prelude.{ap, arith, length, sym, ◌*◌, ◌+◌, ◌<◌, ◌∙◌, ◌≡◌, pos, replicate, placed_from, IsSummed, TotalsFit}
+use Rattle.lab_check.proofs.Bounds.{placed_fits}
 use Rattle.lab_check.proofs.Saturated.{back, window-played}
 use Rattle.lab_check.proofs.played.mixed_report.Goals as goal
 
@@ -19,14 +18,10 @@ loop-done-preserved c =
     c.deref_mut.ensures.value ∙ c.in_ok-sums.ensures.items_if_clones_equal (λ y e. e) ∙ ap (λ n. replicate n (pos 0)) (sym size_is) in
     let count : c.in_ok-sums.sums.len ≡ length new = sym (c.add_parts.ensures.same ∙ c.deref_mut.ensures.len) in
     let new_is : c.deref.result.now ≡ new = c.deref.ensures.value ∙ back c.in_ok-sums.sums.len new c.in_ok-sums.sums.items count in
-    let added : IsSummed channels (report.first + c.loop-done.done) (entries_of_segments script wavs report.segments) c.deref_mut.result.now new =
-    subst (λ (segments : List (ℕ × Segment)). IsSummed channels (report.first + c.loop-done.done) (entries_of_segments script wavs segments) c.deref_mut.result.now new) c.as_slice.ensures c.add_parts.ensures in
-    let from_zeros : IsSummed channels (report.first + c.loop-done.done) es (replicate (length new) (pos 0)) new =
-    subst (λ (old : List ℤ). IsSummed channels (report.first + c.loop-done.done) es old new) old_is added in
     let summed : IsSummed channels (report.first + c.loop-done.done) es (replicate (length c.deref.result.now) (pos 0)) c.deref.result.now =
-    subst (λ (s : List ℤ). IsSummed channels (report.first + c.loop-done.done) es (replicate (length s) (pos 0)) s) (sym new_is) from_zeros in
+    rw (c.as_slice.ensures, old_is, sym new_is) at c.add_parts.ensures in
     let within : TotalsFit es = λ frame channel.
-    placed_fits c.segments_place_once.ensures script wavs report.segments frame channel (samples-known wavs c.samples_are_of_16_bits.ensures) c.requires.few in
+    placed_fits c.segments_place_once.ensures script wavs report.segments frame channel c.samples_are_of_16_bits.ensures c.requires.few in
     let some : 0 < channels = c.requires.script.card.channels.low in
     let played = c.in_ok-push_saturated.ensures channels (report.first + c.loop-done.done) es within summed in
     record {

@@ -1,14 +1,14 @@
 use Rattle.lab_check.specs.Prelude.{length, List, subst, sym, ◌*◌, ◌+◌, ◌<◌, ◌^◌, ◌≡◌, IfOk-weaker, Vec, ℤ}
 use Rattle.lab_check.proofs.FileSizes.{played-few}
-use Rattle.lab_check.proofs.Tested.{passed_end, passed_segments}
+use Rattle.lab_check.proofs.Tested.{played-end, segments_right}
 use Rattle.lab_check.specs.Samples as samples
 use Rattle.lab_check.proofs.played.played_samples.Goals as goal
 
 pub mixed_report-requires-clause-right : goal.mixed_report-requires-clause-right
-mixed_report-requires-clause-right c = passed_segments c.args.script.now c.args.wavs.now c.args.report.now c.requires.tested
+mixed_report-requires-clause-right c = segments_right c.args.script.now c.args.wavs.now c.args.report.now c.requires.tested.segments
 
 pub mixed_report-requires-clause-end : goal.mixed_report-requires-clause-end
-mixed_report-requires-clause-end c = passed_end c.args.script.now c.args.wavs.now c.args.report.now c.requires.script c.requires.tested
+mixed_report-requires-clause-end c = played-end c.args.script.now c.args.report.now c.requires.script c.requires.tested.played
 
 pub returns-clause-few : goal.returns-clause-few
 returns-clause-few c =

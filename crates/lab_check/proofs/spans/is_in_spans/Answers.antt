@@ -1,6 +1,6 @@
 use Rattle.lab_check.specs.Prelude.{ap, arith, leb, length, List, rules, sym, ℕ, ◌-◌, ◌∙◌, ◌≡◌, IsPartitionedBy-leb, IsPartitionPoint-from_clause, nat_le}
 use Rattle.lab_check.specs.Prelude.{slice_index_or, suc, FrameSpan}
-use Rattle.lab_check.proofs.SpanSearch.{ends-length, found, nothing-found}
+use Rattle.lab_check.proofs.SpanSearch.{ends-length, found, none-begins}
 use Rattle.lab_check.proofs.spans.is_in_spans.Goals as goal
 
 pub returns-then-before-eq0 : goal.returns-then-before-eq0
@@ -8,7 +8,7 @@ returns-then-before-eq0 c =
     let spans = c.args.spans.now in
     let parted = IsPartitionedBy-leb (λ (span : FrameSpan). span.first) spans c.args.frame c.requires.rising in
     let point = IsPartitionPoint-from_clause (λ (span : FrameSpan). leb span.first c.args.frame) spans c.partition_point-before.result c.partition_point-before.ensures.partitioned parted (λ a r q k. search rules) in
-    nothing-found c.args.frame spans (λ j d from below. point.1 j d (omega (arith, c.if-before-eq0.true)) below)
+    sym (none-begins c.args.frame spans (λ j d below. point.1 j d (omega (arith, c.if-before-eq0.true)) below))
 
 pub bounds-ends-before : goal.bounds-ends-before
 bounds-ends-before c =

@@ -9,11 +9,11 @@ pub returns-then-frames-late : goal.returns-then-frames-late
 returns-then-frames-late c = λ member.
     let s = c.args.segment.now in
     let b = c.args.bindings in
-    let taken : c.frames_taken-taken.result ≡ frames_taken s = c.frames_taken-taken.ensures in
-    let late : c.saturating_sub-late.result ≡ s.card - c.args.from = c.saturating_sub-late.ensures in
-    let skipped : c.saturating_sub-skipped.result ≡ c.args.from - s.card = c.saturating_sub-skipped.ensures in
     let either : (c.args.frames ≤ s.card - c.args.from) ⊎ (frames_taken s ≤ c.args.from - s.card) =
-    elim c.then-frames-late.either [ inl low ↦ inl (subst (λ n. c.args.frames ≤ n) late low) | inr both ↦ inr (subst (λ n. n ≤ c.args.from - s.card) taken (subst (λ n. c.frames_taken-taken.result ≤ n) skipped both.1)) ] in
+    elim c.then-frames-late.either [
+      | inl low ↦ inl (subst (λ n. c.args.frames ≤ n) c.saturating_sub-late.ensures low)
+      | inr both ↦ inr (subst (λ n. n ≤ c.args.from - s.card) c.frames_taken-taken.ensures (subst (λ n. c.frames_taken-taken.result ≤ n) c.saturating_sub-skipped.ensures both.1))
+    ] in
     subst (λ (es : List Entry). IsSummed c.args.channels c.args.from es c.args.sums.now c.args.sums.now)
     (sym (frames-of member b c.args.samples.now s.source s.card s.whole s.part))
     (nothing-in member b (sample_from member b c.args.samples.now s.source s.card s.whole) s.card s.whole s.part c.args.channels c.args.from c.args.frames (frames_taken s) c.args.sums.now c.requires.sums either)
@@ -67,7 +67,5 @@ returns c = λ member.
 pub add_frame-requires-clause-samples : goal.add_frame-requires-clause-samples
 add_frame-requires-clause-samples c =
     let s = c.args.segment.now in
-    let taken : c.frames_taken-taken.result ≡ frames_taken s = c.frames_taken-taken.ensures in
-    let end : c.min-end.result ≡ Rattle.std.specs.Prelude.min c.frames_taken-taken.result (c.saturating_sub-skipped.result + (c.args.frames - c.saturating_sub-late.result)) = c.min-end.ensures in
-    let low : c.loop-j.j < frames_taken s = omega (arith, taken, end, c.loop-j-test.true) in
+    let low : c.loop-j.j < frames_taken s = omega (arith, c.frames_taken-taken.ensures, c.min-end.ensures, c.loop-j-test.true) in
     samples-fit s.source c.loop-j.j (frames_taken s) c.from-count.result (length c.args.bindings) (length c.args.samples.now) low (c.from-count.ensures ∙ c.len.ensures.value) c.requires.samples

@@ -35,6 +35,3 @@ returns-clause-played g c =
     ∙ ap (λ (wavs : List Sound). played_samples c.args.input.now.script wavs c.args.report.now) c.deref.ensures.value in
     AnswersFrom-last g.S.Shelf _ c.check_file.result _ _ _ _ (IsSameShelf-same g.S.Shelf _) c.check_file.ensures.same
     (λ m told. played_in-of m (input_of c.args.input.now) c.args.out.now c.args.report.now _ _ _ c.line_of_played.ensures c.in_ok-file.ensures samples)
-
-pub returns-clause-only_tests : goal.returns-clause-only_tests
-returns-clause-only_tests g c = c.check_file.ensures.only_tests

@@ -36,6 +36,3 @@ returns-clause-recorded g c =
     c.in_ok-file.ensures
     (reader_samples-taken c.args.input.now.script.card c.args.input.now.capture _ c.args.report.now c.args.input.now.script.readers c.args.number c.args.reader.now _ _
     c.deref.ensures.value c.in_ok-samples.ensures.samples c.as_ref-capture.ensures.value c.requires.reader))
-
-pub returns-clause-only_tests : goal.returns-clause-only_tests
-returns-clause-only_tests g c = c.check_file.ensures.only_tests

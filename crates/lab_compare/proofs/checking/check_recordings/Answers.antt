@@ -1,5 +1,5 @@
-use Rattle.lab_compare.specs.Prelude.{ap, arith, Err, get_or, length, List, refl, subst, sym, ℕ, ◌+◌, ◌<◌, ◌∙◌, ◌≡◌, ◌≤◌, slice_get_read, Ok, slice_get}
-use Rattle.lab_compare.specs.Prelude.{ReaderLine, AnswersFrom-passed, IsSameShelf-same, IsSameShelf-then, IsSameShelf-tests, OnlyTests-after, OnlyTests-done}
+use Rattle.lab_compare.specs.Prelude.{ap, arith, Err, length, List, refl, subst, sym, ℕ, ◌+◌, ◌∙◌, ◌≤◌, slice_get_read, Ok, slice_get, ReaderLine}
+use Rattle.lab_compare.specs.Prelude.{AnswersFrom-passed, IsSameShelf-same, IsSameShelf-then, IsSameShelf-tests, OnlyTests-after, OnlyTests-done}
 use Rattle.lab_compare.specs.Prelude.{OnlyTests-passed, input_of}
 use Rattle.lab_compare.proofs.Checks.{recordings_in-all, recordings_in-next}
 use Rattle.lab_compare.proofs.checking.check_recordings.Goals as goal
@@ -22,30 +22,22 @@ check_recording-requires-clause-reader g c =
     ∙ slice_get_read _ _ _ _ refl c.loop-reader-test.true c.reader-item.is
 
 pub loop-reader-preserved : goal.loop-reader-preserved
-loop-reader-preserved g c =
-    let within : c.loop-reader.reader-index < length c.args.input.now.script.readers =
-    subst (λ (readers : List ReaderLine). c.loop-reader.reader-index < length readers) c.as_slice-reader-items.ensures c.loop-reader-test.true in
-    let is : c.reader-item.result ≡ get_or c.args.input.now.script.readers c.loop-reader.reader-index c.reader-item.result =
-    subst (λ (readers : List ReaderLine). c.reader-item.result ≡ get_or readers c.loop-reader.reader-index c.reader-item.result) c.as_slice-reader-items.ensures c.reader-item.is in
-    record {
-      so_far = λ m told. recordings_in-next m (input_of c.args.input.now) c.args.out.now c.args.report.now c.args.input.now.script.readers
-          c.loop-reader.reader-index c.loop-reader.number c.reader-item.result (Ok tt) (c.loop-reader.invariant.so_far m told) within is
-          (c.in_ok-check_recording.ensures.recorded.answer m (c.loop-reader.invariant.same.files ∙ told));
-      counted = ap (λ (n : ℕ). n + 1) c.loop-reader.invariant.counted;
-      same = IsSameShelf-then g.S.Shelf _ _ _ c.loop-reader.invariant.same
-          (IsSameShelf-tests g.S.Shelf _ _ _ c.in_ok-check_recording.ensures.only_tests);
-    }
+loop-reader-preserved g c = record {
+  so_far = λ m told. recordings_in-next m (input_of c.args.input.now) c.args.out.now c.args.report.now c.args.input.now.script.readers
+      c.loop-reader.reader-index c.loop-reader.number c.reader-item.result (Ok tt) (c.loop-reader.invariant.so_far m told) (rw c.as_slice-reader-items.ensures at c.loop-reader-test.true) (rw c.as_slice-reader-items.ensures at c.reader-item.is)
+      (c.in_ok-check_recording.ensures.recorded.answer m (c.loop-reader.invariant.same.files ∙ told));
+  counted = ap (λ (n : ℕ). n + 1) c.loop-reader.invariant.counted;
+  same = IsSameShelf-then g.S.Shelf _ _ _ c.loop-reader.invariant.same
+      (IsSameShelf-tests g.S.Shelf _ _ _ c.in_ok-check_recording.ensures.only_tests);
+}
 
 pub returns-in_err-check_recording-clause-recorded : goal.returns-in_err-check_recording-clause-recorded
 returns-in_err-check_recording-clause-recorded g c =
-    let within : c.loop-reader.reader-index < length c.args.input.now.script.readers =
-    subst (λ (readers : List ReaderLine). c.loop-reader.reader-index < length readers) c.as_slice-reader-items.ensures c.loop-reader-test.true in
-    let is : c.reader-item.result ≡ get_or c.args.input.now.script.readers c.loop-reader.reader-index c.reader-item.result =
-    subst (λ (readers : List ReaderLine). c.reader-item.result ≡ get_or readers c.loop-reader.reader-index c.reader-item.result) c.as_slice-reader-items.ensures c.reader-item.is in
     AnswersFrom-passed g.S.Shelf _ _ c.from_residual.result c.in_err-check_recording.field-0.0 _ _ _ _ c.from_residual.ensures.1
     c.loop-reader.invariant.same c.in_err-check_recording.ensures.recorded
     (λ m told e refused. recordings_in-next m (input_of c.args.input.now) c.args.out.now c.args.report.now c.args.input.now.script.readers
-    c.loop-reader.reader-index c.loop-reader.number c.reader-item.result (Err e) (c.loop-reader.invariant.so_far m told) within is refused)
+    c.loop-reader.reader-index c.loop-reader.number c.reader-item.result (Err e) (c.loop-reader.invariant.so_far m told)
+    (rw c.as_slice-reader-items.ensures at c.loop-reader-test.true) (rw c.as_slice-reader-items.ensures at c.reader-item.is) refused)
 
 pub returns-in_err-check_recording-clause-only_tests : goal.returns-in_err-check_recording-clause-only_tests
 returns-in_err-check_recording-clause-only_tests g c =

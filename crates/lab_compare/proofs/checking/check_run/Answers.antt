@@ -45,7 +45,6 @@ pub returns-clause-done : goal.returns-clause-done
 returns-clause-done g c =
     let before : Option Files = g.S.Shelf.files c.args.shelf.now in
     let between : g.S.Shelf.files c.read_input.new.shelf ≡ before = c.in_ok-input.ensures.only_reads.files in
-    IsCheckedRun-done (record { whole = c.pieces_tell_files.ensures.whole; show = c.checked_runs_show.ensures })
-    before c.args.script.now c.args.report.now c.args.out.now (input_of c.in_ok-input.input) c.in_ok-tested.tested c.check_outputs.result c.in_ok-input.ensures.input.answer
+    IsCheckedRun-done c.checked_runs_show.ensures before c.args.script.now c.args.report.now c.args.out.now (input_of c.in_ok-input.input) c.in_ok-tested.tested c.check_outputs.result c.in_ok-input.ensures.input.answer
     (subst (λ (files : Option Files). IsReportIn files (input_of c.in_ok-input.input) c.args.report.now c.in_ok-tested.tested) between c.in_ok-tested.ensures.held)
     (λ m told. c.check_outputs.ensures.outputs.answer m (c.in_ok-tested.ensures.only_tests.files ∙ between ∙ told))

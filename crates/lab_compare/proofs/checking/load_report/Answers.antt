@@ -30,10 +30,6 @@ returns-clause-held g c =
 
 pub returns-clause-only_tests : goal.returns-clause-only_tests
 returns-clause-only_tests g c =
-    rw c.passed.ensures
-    (record {
-      files = c.in_ok-text.ensures.only_reads.files;
-      faults = TestFaults-passed c.tested_report.result _ _ c.in_ok-text.ensures.only_reads.faults;
-      write_faults = c.in_ok-text.ensures.only_reads.write_faults;
-      reliable = c.in_ok-text.ensures.only_reads.reliable;
-    })
+    let reads = c.in_ok-text.ensures.only_reads in
+    let faults = TestFaults-passed c.tested_report.result _ _ reads.faults in
+    rw c.passed.ensures assumption

@@ -31,9 +31,4 @@ returns-else-same-clause-same g c = record {
 }
 
 pub returns-else-same-clause-only_tests : goal.returns-else-same-clause-only_tests
-returns-else-same-clause-only_tests g c = record {
-  files = c.in_ok-same.ensures.only_reads.files;
-  faults = c.in_ok-same.ensures.only_reads.faults;
-  write_faults = c.in_ok-same.ensures.only_reads.write_faults;
-  reliable = c.in_ok-same.ensures.only_reads.reliable;
-}
+returns-else-same-clause-only_tests g c = let reads = c.in_ok-same.ensures.only_reads in assumption

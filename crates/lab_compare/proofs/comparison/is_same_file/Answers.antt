@@ -1,17 +1,17 @@
 use Rattle.lab_compare.specs.Prelude.{arith, inl, inr, length, refl, sym, ◌*◌, ◌+◌, ◌≡◌, nat_tests, AnswersFrom-memory, AnswersFrom-passed, IsSameShelf-reads}
 use Rattle.lab_compare.specs.Prelude.{IsSameShelf-same, IsSameShelf-then, OnlyReads-after, OnlyReads-done, OnlyReads-memory, OnlyReads-passed, length-canonical}
 use Rattle.lab_compare.specs.Prelude.{finished_file, sound_of}
-use Rattle.lab_compare.proofs.Comparing.{IsComparing-next, IsEven-next, IsEven-rest, is_same_in-all, is_same_in-missing}
+use Rattle.lab_compare.proofs.Comparing.{IsComparing-next, even-next, is_same_in-all, is_same_in-missing}
 use Rattle.lab_compare.proofs.comparison.is_same_file.Goals.{then-loop-is_last-test+else-from-size, else-loop-is_last-test}
 use Rattle.lab_compare.proofs.comparison.is_same_file.Goals as goal
 
 pub canonical_piece-requires-clause-even : goal.canonical_piece-requires-clause-even
-canonical_piece-requires-clause-even g c = IsEven-rest _ (c.loop-is_last.invariant.even c.if-from-size.true)
+canonical_piece-requires-clause-even g c = c.loop-is_last.invariant.even c.if-from-size.true
 
 pub loop-is_last-init : goal.loop-is_last-init
 loop-is_last-init g c = record {
   so_far = λ m told. inl (record { nothing = refl; alike = refl; more = refl });
-  even = λ low. record { half = 0; twice = refl };
+  even = λ low. refl;
   within = omega arith;
   shelf = IsSameShelf-same g.S.Shelf _;
 }
@@ -22,7 +22,7 @@ loop-is_last-preserved g c = record {
       c.loop-is_last.invariant.shelf.files c.as_slice.ensures c.in_ok-piece.ensures.bytes.answer c.in_ok-expected.ensures
       c.deref.ensures.value c.deref-in-loop-is_last.ensures.value c.is_same_so_far-same.ensures
       (λ is. grind (arith, nat_tests, is, c.len.ensures));
-  even = IsEven-next _ _ _ c.if-from-size.true c.loop-is_last.invariant.even c.min-most.ensures;
+  even = even-next _ _ _ c.if-from-size.true c.loop-is_last.invariant.even c.min-most.ensures;
   within = omega (arith, c.if-from-size.true, c.min-most.ensures);
   shelf = IsSameShelf-then g.S.Shelf _ _ _ c.loop-is_last.invariant.shelf (IsSameShelf-reads g.S.Shelf _ _ _ c.in_ok-piece.ensures.only_reads);
 }

@@ -1,18 +1,24 @@
--- A script has one session on its clients' files.
-use Rattle.run_laws.specs.Prelude.{ap, inl, inr, length, List, None, Option, refl, Some, subst, sym, ℕ, [], ◌∙◌, ◌∷◌, ◌≡◌, ◌≤◌, Err, Ok, Result, Geometry}
-use Rattle.run_laws.specs.Prelude.{ParamBox, with_value, Leaves, widest, Sound, CardLine, ClientLine, ReaderLine, Script, AreClientOpenings, AreParams}
-use Rattle.run_laws.specs.Prelude.{AreReaderOpenings, client_values, IsChosen, IsClientOpening, IsNarrowed, IsReaderOpening, IsRingOf, IsStop, reader_values}
-use Rattle.run_laws.specs.Prelude.{Values, Setup}
+-- A script has one session on its clients' files: with what an actor is opened is settled by the card, its line and its file.
+use Rattle.lab_run.specs.Prelude.{ap, inl, inr, length, None, Option, refl, Some, subst, sym, ℕ, ◌∙◌, ◌≡◌, ◌≤◌, Err, List, Ok, Result, [], ◌∷◌, Geometry, Sound}
+use Rattle.lab_run.specs.Prelude.{Script, Session}
 use Rattle.std.proofs.Props.{props}
 use Rattle.pcm_interval.specs.declared.empty.Empty.{Empty}
 use Rattle.hw_space.specs.declared.config.Config.{Config}
+use Rattle.hw_space.specs.declared.param_box.ParamBox.{ParamBox}
 use Rattle.hw_space.specs.ChoiceLaws.{IsChoice-unique, Leaves-unique}
 use Rattle.hw_space.specs.Choices.{IsChoice}
+use Rattle.hw_space.specs.Narrowings.{with_value}
+use Rattle.hw_space.specs.Settled.{Leaves}
+use Rattle.hw_space.specs.Widest.{widest}
 use Rattle.sw_limits.specs.declared.params.SwParams.{SwParams}
 use Rattle.sw_limits.specs.BoundaryLaws.{IsBoundary-unique}
+use Rattle.lab_lines.specs.declared.script.CardLine.{CardLine}
+use Rattle.lab_lines.specs.declared.script.ClientLine.{ClientLine}
+use Rattle.lab_lines.specs.declared.script.ReaderLine.{ReaderLine}
 use Rattle.lab_lines.specs.declared.script.Stop.{Stop}
 use Rattle.lab_lines.specs.declared.script.Stop.TheVariants.{At, Never}
-use Rattle.run_laws.specs.OneSession.{HaveOneSession}
+use Rattle.lab_run.specs.Openings.{AreClientOpenings, AreParams, AreReaderOpenings, client_values, IsChosen, IsClientOpening, IsNarrowed, IsReaderOpening, IsRingOf, IsSessionOf, IsStop, reader_values, Values}
+use Rattle.lab_run.specs.Stage.{Setup}
 
 -- ---- configurations
 
@@ -96,7 +102,7 @@ not-both : (card : CardLine) (values : Values) (config : Config) (e : Empty) →
 not-both card values config e one none = let same : Ok config ≡ Err e = IsChosen-unique card values (Ok config) (Err e) one none in absurd (cc)
 
 -- a client is opened with one setup, or with none
-IsClientOpening-unique : (card : CardLine) (line : ClientLine) (wav : Sound) (a b : Option Setup)
+pub IsClientOpening-unique : (card : CardLine) (line : ClientLine) (wav : Sound) (a b : Option Setup)
     → IsClientOpening card line wav a → IsClientOpening card line wav b → a ≡ b
 IsClientOpening-unique card line wav (Some a) (Some b) one other = ap (λ x. Some x) (opened-same card (client_values line wav) line.start line.stop a b
     one.config other.config one.params other.params (one.bindings ∙ sym other.bindings) (one.lead ∙ sym other.lead))
@@ -106,7 +112,7 @@ IsClientOpening-unique card line wav None (Some b) (inl none) other = absurd (no
 IsClientOpening-unique card line wav None (Some b) (inr one) other = absurd (one (ap length (sym other.bindings) ∙ other.channels))
 IsClientOpening-unique card line wav None None one other = refl
 
-IsReaderOpening-unique : (card : CardLine) (line : ReaderLine) (a b : Option Setup) → IsReaderOpening card line a → IsReaderOpening card line b → a ≡ b
+pub IsReaderOpening-unique : (card : CardLine) (line : ReaderLine) (a b : Option Setup) → IsReaderOpening card line a → IsReaderOpening card line b → a ≡ b
 IsReaderOpening-unique card line (Some a) (Some b) one other = ap (λ x. Some x) (opened-same card (reader_values card line) line.start line.stop a b
     one.config other.config one.params other.params (one.bindings ∙ sym other.bindings) (one.lead ∙ sym other.lead))
 IsReaderOpening-unique card line (Some a) None one none = absurd (not-both card (reader_values card line) a.config none.0 one.config none.1)
@@ -117,28 +123,24 @@ IsReaderOpening-unique card line None None one other = refl
 AreClientOpenings-unique : (card : CardLine) (lines : List ClientLine) (wavs : List Sound) (a b : List (Option Setup))
     → AreClientOpenings card lines wavs a → AreClientOpenings card lines wavs b → a ≡ b
 AreClientOpenings-unique card [] [] [] [] one other = refl
-AreClientOpenings-unique card [] [] [] (y ∷ b) one other = absurd other
-AreClientOpenings-unique card [] [] (x ∷ a) b one other = absurd one
-AreClientOpenings-unique card [] (wav ∷ wavs) a b one other = absurd one
-AreClientOpenings-unique card (line ∷ lines) [] a b one other = absurd one
-AreClientOpenings-unique card (line ∷ lines) (wav ∷ wavs) [] b one other = absurd one
-AreClientOpenings-unique card (line ∷ lines) (wav ∷ wavs) (x ∷ a) [] one other = absurd other
 AreClientOpenings-unique card (line ∷ lines) (wav ∷ wavs) (x ∷ a) (y ∷ b) one other =
     let first : x ≡ y = IsClientOpening-unique card line wav x y one.0 other.0 in
     let others : a ≡ b = AreClientOpenings-unique card lines wavs a b one.1 other.1 in
     λ k. first k ∷ others k
+AreClientOpenings-unique card [] [] [] (y ∷ b) one other = absurd other
+AreClientOpenings-unique card (line ∷ lines) (wav ∷ wavs) (x ∷ a) [] one other = absurd other
+AreClientOpenings-unique card lines wavs a b one other = absurd one
 
 AreReaderOpenings-unique : (card : CardLine) (lines : List ReaderLine) (a b : List (Option Setup))
     → AreReaderOpenings card lines a → AreReaderOpenings card lines b → a ≡ b
 AreReaderOpenings-unique card [] [] [] one other = refl
-AreReaderOpenings-unique card [] [] (y ∷ b) one other = absurd other
-AreReaderOpenings-unique card [] (x ∷ a) b one other = absurd one
-AreReaderOpenings-unique card (line ∷ lines) [] b one other = absurd one
-AreReaderOpenings-unique card (line ∷ lines) (x ∷ a) [] one other = absurd other
 AreReaderOpenings-unique card (line ∷ lines) (x ∷ a) (y ∷ b) one other =
     let first : x ≡ y = IsReaderOpening-unique card line x y one.0 other.0 in
     let others : a ≡ b = AreReaderOpenings-unique card lines a b one.1 other.1 in
     λ k. first k ∷ others k
+AreReaderOpenings-unique card [] [] (y ∷ b) one other = absurd other
+AreReaderOpenings-unique card (line ∷ lines) (x ∷ a) [] one other = absurd other
+AreReaderOpenings-unique card lines a b one other = absurd one
 
 -- ---- rings
 
@@ -172,7 +174,7 @@ geometry_of-unique n m same a =
     subst (λ k. (b : InRange k) → geometry_of n a ≡ geometry_of k b) same (λ b. ap (geometry_of n) (InRange-prop n a b))
 
 -- a card has one ring
-IsRingOf-unique : (card : CardLine) (a b : Geometry) → IsRingOf card a → IsRingOf card b → a ≡ b
+pub IsRingOf-unique : (card : CardLine) (a b : Geometry) → IsRingOf card a → IsRingOf card b → a ≡ b
 IsRingOf-unique card a b one other =
     let same : numbers a ≡ numbers b =
     λ k. ((one.frames ∙ sym other.frames) k, (one.channels ∙ sym other.channels) k, (one.first_lap ∙ sym other.first_lap) k) in
@@ -180,7 +182,8 @@ IsRingOf-unique card a b one other =
 
 -- ---- sessions
 
-pub IsSessionOf-unique : (script : Script) (wavs : List Sound) → HaveOneSession script wavs
+pub IsSessionOf-unique : (script : Script) (wavs : List Sound) (session other : Session)
+    → IsSessionOf script wavs session → IsSessionOf script wavs other → session ≡ other
 IsSessionOf-unique script wavs session other one two =
     let ring : session.ring ≡ other.ring = IsRingOf-unique script.card session.ring other.ring one.ring two.ring in
     let clients : session.clients ≡ other.clients =
