@@ -5,7 +5,7 @@ ghost use Rattle.lab_shelf.specs.Counts.{IsFaultCount, count_after};
 
 use crate::fault::{ShelfFault, count_fault};
 use crate::input::{OpenInput, read_piece};
-use crate::output::{store_options, write_bytes};
+use crate::output::write_bytes;
 use crate::traits::{Shelf, Sink};
 use std::alloc::Global;
 use std::fs::{File, OpenOptions};
@@ -117,7 +117,9 @@ impl<R: Files<File = File>> Shelf for FileShelf<R> {
         ensures faults { IsFaultCount result self.old.write_faults self.new.write_faults }
         ensures fetch_faults { self.new.fetch_faults ≡ self.old.fetch_faults }
     {
-        self.change(&store_options(), name, bytes)
+        let mut options = OpenOptions::new();
+        options.write(true).create(true).truncate(true);
+        self.change(&options, name, bytes)
     }
 
     fn begin(&mut self, name: &[u8], head: &[u8]) -> Result<(), ShelfFault>

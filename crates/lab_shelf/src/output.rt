@@ -13,13 +13,6 @@ pub(crate) fn is_fifo<R: Files>(rt: &R, path: &str) -> bool {
     }
 }
 
-/// What makes a file that holds nothing.
-pub(crate) fn store_options() -> OpenOptions {
-    let mut options = OpenOptions::new();
-    options.write(true).create(true).truncate(true);
-    options
-}
-
 /// Opens a file to be written. One that can't be sought is refused, since it holds nothing in which
 /// a head could be replaced; a FIFO isn't even opened, since that would wait for who reads it.
 fn open_output<R: Files<File = File>>(

@@ -123,71 +123,26 @@ fn name_text(name: &[u8]) -> &str
     }
 }
 
-/// The line that says why the WAV file of this name is refused.
-fn wav_reason(alloc: Global, name: &[u8], why: WavError) -> Result<String, AllocError>
-    ensures { IfOk result (λ line. string_bytes line ≡ codes "dmixlab: wav "
-        ++ (file_shown name.now ++ (codes ": " ++ (wav.error_text why ++ codes "\n")))) }
-{
-    let name = name_text(name);
-    format!(in alloc; "dmixlab: wav {name}: {why}\n")
-}
-
-/// The line that says that the file of this name can't be read.
-fn read_reason(alloc: Global, name: &[u8]) -> Result<String, AllocError>
-    ensures { IfOk result (λ line. string_bytes line
-        ≡ codes "dmixlab: read " ++ (file_shown name.now ++ codes "\n")) }
-{
-    let name = name_text(name);
-    format!(in alloc; "dmixlab: read {name}\n")
-}
-
-/// The line that says at which line of a report a test of it and of its files fails.
-fn no_reason(alloc: Global, line: u32) -> Result<String, AllocError>
-    ensures { IfOk result (λ text. string_bytes text
-        ≡ codes "dmixlab: no: line " ++ (decimal line ++ codes "\n")) }
-{
-    format!(in alloc; "dmixlab: no: line {line}\n")
-}
-
-/// The line that says why a script is refused.
-fn script_reason(alloc: Global, error: ScriptError) -> Result<String, AllocError>
-    ensures { IfOk result (λ line. string_bytes line
-        ≡ codes "dmixlab: script " ++ (script.error_text error ++ codes "\n")) }
-{
-    format!(in alloc; "dmixlab: script {error}\n")
-}
-
-/// The line that says why a configuration is refused.
-fn conf_reason(alloc: Global, error: ConfError) -> Result<String, AllocError>
-    ensures { IfOk result (λ line. string_bytes line
-        ≡ codes "dmixlab: conf " ++ (conf.error_text error ++ codes "\n")) }
-{
-    format!(in alloc; "dmixlab: conf {error}\n")
-}
-
 /// The line that says why a command stopped.
 fn reason(alloc: Global, stop: &Stop) -> Result<String, AllocError>
     ensures { IfOk result (λ line. string_bytes line ≡ stop_line stop.now) }
 {
     match stop {
         Stop::Words => String::from_str(alloc, "dmixlab: words\n"),
-        Stop::Script(error) => script_reason(alloc, *error),
-        Stop::Conf(error) => conf_reason(alloc, *error),
-        Stop::Wav { name, why } => wav_reason(alloc, name.as_slice(), *why),
-        Stop::Read { name } => read_reason(alloc, name.as_slice()),
-        Stop::No { line } => no_reason(alloc, *line),
+        Stop::Script(error) => format!(in alloc; "dmixlab: script {error}\n"),
+        Stop::Conf(error) => format!(in alloc; "dmixlab: conf {error}\n"),
+        Stop::Wav { name, why } => {
+            let name = name_text(name.as_slice());
+            format!(in alloc; "dmixlab: wav {name}: {why}\n")
+        }
+        Stop::Read { name } => {
+            let name = name_text(name.as_slice());
+            format!(in alloc; "dmixlab: read {name}\n")
+        }
+        Stop::No { line } => format!(in alloc; "dmixlab: no: line {line}\n"),
         Stop::Write => String::from_str(alloc, "dmixlab: write\n"),
         Stop::Memory => String::from_str(alloc, "dmixlab: memory\n"),
     }
-}
-
-/// Puts a line on a sink, as much of it as the sink takes.
-fn put_line<E: Sink>(errors: &mut E, line: &[u8])
-    ensures took { TookPart (E.taken errors.old) (E.taken errors.new) line.now }
-    ensures faults { E.faults errors.old ≤ E.faults errors.new }
-    ensures reliable { E.is_reliable errors.old → E.is_reliable errors.new }
-{
-    let _end = errors.put(line);
 }
 
 /// Puts the line that says why a command stopped on `errors`: `dmixlab: ` and then `words`,
@@ -202,6 +157,6 @@ pub fn tell<E: Sink>(alloc: Global, errors: &mut E, stop: &Stop)
     ensures reliable { E.is_reliable errors.old → E.is_reliable errors.new }
 {
     if let Ok(line) = reason(alloc, stop) {
-        put_line(errors, line.as_bytes());
+        let _end = errors.put(line.as_bytes());
     }
 }

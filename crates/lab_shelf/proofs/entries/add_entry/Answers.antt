@@ -6,5 +6,5 @@ use Rattle.lab_shelf.proofs.entries.add_entry.Goals as goal
 pub returns-clause-ok : goal.returns-clause-ok
 returns-clause-ok c is =
     ap files_of c.in_ok-push.ensures.items
-    ∙ push_is_with_file (λ e. e.0.items) (λ e. e.1.items) c.args.entries.now.items
+    ∙ push_is_with_file c.args.entries.now.items
     (c.in_ok-name.name, c.args.content) c.args.name.now c.args.content.items is c.in_ok-name.ensures.items refl
