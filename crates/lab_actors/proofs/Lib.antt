@@ -1,11 +1,9 @@
-mod Asks
 mod BoundTo
 mod ConfigRange
 mod LineCounts
 mod Narrowings
 mod OpeningLists
 mod PairLemmas
-mod ParamLaws
+pub mod ParamLaws
 mod RefusedLaws
-mod UniqueOpenings
 mod UsableOpenings

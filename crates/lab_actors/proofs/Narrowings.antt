@@ -1,8 +1,7 @@
 -- Laws of narrowings: values narrow one after the other, and what they leave is one space, or nothing.
-use Rattle.lab_actors.specs.Prelude.{inl, inr, refl, subst, sym, ℕ, [], ◌++◌, ◌∙◌, ◌∷◌, ◌≡◌, Err, None, Ok, Option, Result, Some, Empty, Config, ParamBox}
-use Rattle.lab_actors.specs.Prelude.{IsChoice, with_value, Leaves, space_left, widest, CardLine, IsChosen, IsNarrowed, Values}
+use Rattle.lab_actors.specs.Prelude.{inl, inr, subst, sym, ℕ, [], ◌++◌, ◌∷◌, ◌≡◌, Err, None, Ok, Option, Result, Some, Empty, Config, ParamBox, IsChoice}
+use Rattle.lab_actors.specs.Prelude.{with_value, Leaves, space_left, widest, CardLine, IsChosen, IsNarrowed, Values}
 use Rattle.hw_space.specs.declared.param.Param.{Param}
-use Rattle.hw_space.specs.ChoiceLaws.{IsChoice-unique, Leaves-unique}
 
 -- a value leaves nothing, or the others narrow what it leaves
 pub IsNarrowed-fails : (b : ParamBox) (p : Param) (v : ℕ) (more : Values) → Leaves (with_value b p v) None → IsNarrowed b ((p, v) ∷ more) None
@@ -28,56 +27,6 @@ pub IsNarrowed-append : (xs ys : Values) (b d : ParamBox) (o : Option ParamBox)
 IsNarrowed-append [] ys b d o same others = let is : d ≡ b = cc in subst (λ (x : ParamBox). IsNarrowed x ys o) is others
 IsNarrowed-append ((p, v) ∷ xs) ys b d o first others =
     IsNarrowed-goes b first.0 p v (xs ++ ys) o first.1 (IsNarrowed-append xs ys first.0 d o first.2 others)
-
--- what values leave is one space, or nothing
-pub IsNarrowed-unique : (values : Values) (b : ParamBox) (o q : Option ParamBox) → IsNarrowed b values o → IsNarrowed b values q → o ≡ q
-IsNarrowed-unique [] b o q one other = one ∙ sym other
-IsNarrowed-unique ((p, v) ∷ more) b (Some c) (Some d) one other =
-    let e : Some one.0 ≡ Some other.0 = Leaves-unique (with_value b p v) (Some one.0) (Some other.0) one.1 other.1 in
-    let same : other.0 ≡ one.0 = cc in
-    IsNarrowed-unique more one.0 (Some c) (Some d) one.2 (subst (λ (x : ParamBox). IsNarrowed x more (Some d)) same other.2)
-IsNarrowed-unique ((p, v) ∷ more) b (Some c) None one other =
-    elim other [
-      | inl none ↦ let e : Some one.0 ≡ None = Leaves-unique (with_value b p v) (Some one.0) None one.1 none in absurd (cc)
-      | inr x ↦
-          let e : Some one.0 ≡ Some x.0 = Leaves-unique (with_value b p v) (Some one.0) (Some x.0) one.1 x.1 in
-          let same : x.0 ≡ one.0 = cc in
-          IsNarrowed-unique more one.0 (Some c) None one.2 (subst (λ (y : ParamBox). IsNarrowed y more None) same x.2)
-    ]
-IsNarrowed-unique ((p, v) ∷ more) b None (Some d) one other =
-    elim one [
-      | inl none ↦ let e : None ≡ Some other.0 = Leaves-unique (with_value b p v) None (Some other.0) none other.1 in absurd (cc)
-      | inr x ↦
-          let e : Some x.0 ≡ Some other.0 = Leaves-unique (with_value b p v) (Some x.0) (Some other.0) x.1 other.1 in
-          let same : other.0 ≡ x.0 = cc in
-          IsNarrowed-unique more x.0 None (Some d) x.2 (subst (λ (y : ParamBox). IsNarrowed y more (Some d)) same other.2)
-    ]
-IsNarrowed-unique ((p, v) ∷ more) b None None one other = refl
-
--- a choice and a refusal don't meet
-chosen-or_not : (card : CardLine) (values : Values) (c : Config) (e : Empty) → IsChosen card values (Ok c) → IsChosen card values (Err e) → ⊥
-chosen-or_not card values c e one other =
-    elim other [
-      | inl none ↦
-          let is : Some one.0 ≡ None = IsNarrowed-unique values (widest card.channels card.rate card.ring) (Some one.0) None one.1 none in absurd (cc)
-      | inr x ↦
-          let is : Some one.0 ≡ Some x.0 =
-          IsNarrowed-unique values (widest card.channels card.rate card.ring) (Some one.0) (Some x.0) one.1 x.1 in
-          let same : x.0 ≡ one.0 = cc in
-          let answers : Ok c ≡ Err e =
-          IsChoice-unique one.0 card.period (Ok c) (Err e) one.2 (subst (λ (y : ParamBox). IsChoice y card.period (Err e)) same x.2) in absurd (cc)
-    ]
-
--- so one configuration is chosen, or none
-pub IsChosen-unique : (card : CardLine) (values : Values) (r s : Result Config Empty) → IsChosen card values r → IsChosen card values s → r ≡ s
-IsChosen-unique card values (Ok c) (Ok d) one other =
-    let e : Some one.0 ≡ Some other.0 =
-    IsNarrowed-unique values (widest card.channels card.rate card.ring) (Some one.0) (Some other.0) one.1 other.1 in
-    let same : other.0 ≡ one.0 = cc in
-    IsChoice-unique one.0 card.period (Ok c) (Ok d) one.2 (subst (λ (x : ParamBox). IsChoice x card.period (Ok d)) same other.2)
-IsChosen-unique card values (Ok c) (Err e) one other = absurd (chosen-or_not card values c e one other)
-IsChosen-unique card values (Err e) (Ok d) one other = absurd (chosen-or_not card values d e other one)
-IsChosen-unique card values (Err e) (Err f) one other = refl
 
 -- what a call narrowed that was refused
 pub IsNarrowed-refused : (values : Values) (b x : ParamBox) (r : Result (Unit {0}) Empty) (e : Empty) → r ≡ Err e → IsNarrowed b values None

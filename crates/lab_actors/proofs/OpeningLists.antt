@@ -1,6 +1,7 @@
 -- The openings of lists of lines: one more line has one opening more.
 use Rattle.lab_actors.specs.Prelude.{get_or, length, List, subst, sym, take, ℕ, [], ◌++◌, ◌+◌, ◌<◌, ◌∷◌, ◌≡◌, take_more, Option, Sound, CardLine, ClientLine}
-use Rattle.lab_actors.specs.Prelude.{ReaderLine, AreClientOpenings, AreReaderOpenings, IsClientOpening, IsReaderOpening, Setup}
+use Rattle.lab_actors.specs.Prelude.{AreClientOpenings, AreReaderOpenings, IsClientOpening, IsReaderOpening, Setup}
+use Rattle.lab_lines.specs.declared.script.ReaderLine.{ReaderLine}
 
 AreClientOpenings-push : (card : CardLine) (lines : List ClientLine) (wavs : List Sound) (setups : List (Option Setup)) (line : ClientLine) (wav : Sound) (setup : Option Setup)
     → AreClientOpenings card lines wavs setups → IsClientOpening card line wav setup
@@ -22,9 +23,7 @@ pub AreClientOpenings-more : (card : CardLine) (lines : List ClientLine) (wavs :
 AreClientOpenings-more card lines wavs setups n line wav setup in_lines in_wavs is_line is_wav all one =
     let lines_more : take (n + 1) lines ≡ take n lines ++ line ∷ [] = rw is_line (take_more lines n line in_lines) in
     let wavs_more : take (n + 1) wavs ≡ take n wavs ++ wav ∷ [] = rw is_wav (take_more wavs n wav in_wavs) in
-    subst (λ (ls : List ClientLine). AreClientOpenings card ls (take (n + 1) wavs) (setups ++ setup ∷ [])) (sym lines_more)
-    (subst (λ (ws : List Sound). AreClientOpenings card (take n lines ++ line ∷ []) ws (setups ++ setup ∷ [])) (sym wavs_more)
-    (AreClientOpenings-push card (take n lines) (take n wavs) setups line wav setup all one))
+    rw (lines_more, wavs_more) (AreClientOpenings-push card (take n lines) (take n wavs) setups line wav setup all one)
 
 AreReaderOpenings-push : (card : CardLine) (lines : List ReaderLine) (setups : List (Option Setup)) (line : ReaderLine) (setup : Option Setup)
     → AreReaderOpenings card lines setups → IsReaderOpening card line setup

@@ -1,7 +1,7 @@
 -- Pairs of two lists that are split in two: what holds of both parts holds of the whole.
-use Rattle.lab_actors.specs.Prelude.{ap, arith, inl, inr, length, List, refl, subst, sym, ℕ, ◌++◌, ◌+◌, ◌<◌, ◌∙◌, ◌≡◌, ◌≤◌, get_or-append-add, get_or-set_other}
-use Rattle.lab_actors.specs.Prelude.{get_or-set_same, get_or_append_left, get_or_default, length-append, length-set, slice_index_or, slice_set, ◌-◌, AreChanged}
-use Rattle.lab_actors.specs.Prelude.{ChangesFrom, ChangesPair, ChangesPairs, IsReadyFrom}
+use Rattle.lab_actors.specs.Prelude.{add-zero, ap, arith, inl, inr, length, List, refl, subst, sym, ℕ, ◌++◌, ◌+◌, ◌<◌, ◌∙◌, ◌≡◌, ◌≤◌, get_or-append-add}
+use Rattle.lab_actors.specs.Prelude.{get_or-set_other, get_or-set_same, get_or_append_left, get_or_default, length-append, length-set, slice_index_or}
+use Rattle.lab_actors.specs.Prelude.{slice_set, ◌-◌, AreChanged, ChangesFrom, ChangesPair, ChangesPairs, IsReadyFrom}
 use Rattle.std.proofs.lemmas.Bool.{cases_lt}
 use Rattle.std.specs.Borrow.{MutBor}
 use denote.Param.Members.{Shared}
@@ -13,9 +13,7 @@ AreChanged-one R xs gs y h one some is = record {
   len = length-set xs 0 y;
   gates_len = length-set gs 0 h;
   each = λ i d e inside. let first : 0 ≡ i = omega (arith, inside, one) in
-      subst (λ k. R k (slice_index_or xs k d) (slice_index_or gs k e) (slice_index_or (slice_set xs 0 y) k d) (slice_index_or (slice_set gs 0 h) k e)) first
-      (subst (λ z. R 0 (slice_index_or xs 0 d) (slice_index_or gs 0 e) z (slice_index_or (slice_set gs 0 h) 0 e)) (sym (get_or-set_same xs 0 y d (omega (arith, one))))
-      (subst (R 0 (slice_index_or xs 0 d) (slice_index_or gs 0 e) y) (sym (get_or-set_same gs 0 h e some)) (is d e)));
+      rw (sym first, get_or-set_same xs 0 y d (omega (arith, one)), get_or-set_same gs 0 h e some) (is d e);
   beyond = λ i e from. get_or-set_other gs 0 i h e (λ is. omega (arith, from, one, is));
 }
 
@@ -35,18 +33,15 @@ AreChanged-append {S = S} {G = G} R xs xs' ys ys' gs gs' hs hs' even low high =
       gates_len = omega (arith, length-append gs gs', length-append hs hs', even, gates_len, high.gates_len);
       each = λ i d e inside. elim (cases_lt i n) [
         | inl below ↦
-            subst (λ x. R i x (slice_index_or (gs ++ gs') i e) (slice_index_or (ys ++ ys') i d) (slice_index_or (hs ++ hs') i e)) (sym (get_or_append_left xs xs' d i below))
-            (subst (λ g. R i (slice_index_or xs i d) g (slice_index_or (ys ++ ys') i d) (slice_index_or (hs ++ hs') i e)) (sym (get_or_append_left gs gs' e i (omega (arith, below, even))))
-            (subst (λ y. R i (slice_index_or xs i d) (slice_index_or gs i e) y (slice_index_or (hs ++ hs') i e)) (sym (get_or_append_left ys ys' d i (omega (arith, below, len))))
-            (subst (R i (slice_index_or xs i d) (slice_index_or gs i e) (slice_index_or ys i d)) (sym (get_or_append_left hs hs' e i (omega (arith, below, gates_len))))
-            (low.each i d e below))))
+            rw (
+              get_or_append_left xs xs' d i below,
+              get_or_append_left gs gs' e i (omega (arith, below, even)),
+              get_or_append_left ys ys' d i (omega (arith, below, len)),
+              get_or_append_left hs hs' e i (omega (arith, below, gates_len)),
+            ) (low.each i d e below)
         | inr from ↦ let k = i - n in let is : n + k ≡ i = omega (arith, from) in
-            subst (λ x. R i x (slice_index_or (gs ++ gs') i e) (slice_index_or (ys ++ ys') i d) (slice_index_or (hs ++ hs') i e)) (sym (get_or-behind xs xs' n i d refl from))
-            (subst (λ g. R i (slice_index_or xs' k d) g (slice_index_or (ys ++ ys') i d) (slice_index_or (hs ++ hs') i e)) (sym (get_or-behind gs gs' n i e even from))
-            (subst (λ y. R i (slice_index_or xs' k d) (slice_index_or gs' k e) y (slice_index_or (hs ++ hs') i e)) (sym (get_or-behind ys ys' n i d len from))
-            (subst (R i (slice_index_or xs' k d) (slice_index_or gs' k e) (slice_index_or ys' k d)) (sym (get_or-behind hs hs' n i e gates_len from))
-            (subst (λ j. R j (slice_index_or xs' k d) (slice_index_or gs' k e) (slice_index_or ys' k d) (slice_index_or hs' k e)) is
-            (high.each k d e (omega (arith, inside, from, length-append xs xs')))))))
+            rw (get_or-behind xs xs' n i d refl from, get_or-behind gs gs' n i e even from, get_or-behind ys ys' n i d len from, get_or-behind hs hs' n i e gates_len from)
+            (subst (λ j. R j (slice_index_or xs' k d) (slice_index_or gs' k e) (slice_index_or ys' k d) (slice_index_or hs' k e)) is (high.each k d e (omega (arith, inside, from, length-append xs xs'))))
       ];
       beyond = λ i e from.
           let past : n ≤ i = omega (arith, from, length-append xs xs') in
@@ -96,9 +91,7 @@ module _ {F S G : Type 0} (fn : Shared F (ℕ × (MutBor S × (MutBor G × Unit 
   pub ChangesFrom-one : (base : ℕ) (xs : List S) (gs : List G) (d : S) (e : G) (y : S) (h : G) → length xs ≡ 1 → 0 < length gs
       → ChangesPair fn f base (slice_index_or xs 0 d) (slice_index_or gs 0 e) y h → ChangesFrom fn f base xs (slice_set xs 0 y) gs (slice_set gs 0 h)
   ChangesFrom-one base xs gs d e y h one some is = AreChanged-one (λ i. ChangesPair fn f (base + i)) xs gs y h one some
-      (λ d' e'. subst (λ k. ChangesPair fn f k (slice_index_or xs 0 d') (slice_index_or gs 0 e') y h) {x = base} (omega arith)
-      (subst (λ x. ChangesPair fn f base x (slice_index_or gs 0 e') y h) (get_or_default xs 0 d d' (omega (arith, one)))
-      (subst (λ g. ChangesPair fn f base (slice_index_or xs 0 d) g y h) (get_or_default gs 0 e e' some) is)))
+      (λ d' e'. rw (add-zero base, sym (get_or_default xs 0 d d' (omega (arith, one))), sym (get_or_default gs 0 e e' some)) is)
 
   -- both parts became what calls left of them
   pub ChangesFrom-append : (base : ℕ) (xs xs' ys ys' : List S) (gs gs' hs hs' : List G) → length gs ≡ length xs

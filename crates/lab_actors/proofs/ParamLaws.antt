@@ -1,23 +1,13 @@
--- The software parameters of a line: there is one value of them, and it is valid.
-use Rattle.lab_actors.specs.Prelude.{arith, sym, ℕ, ◌∙◌, ◌≡◌, ◌≤◌, None, Option, Some, Config, Stop, IsIn, IsStopWhere, AreParams, IsStop}
+-- The software parameters of a line are valid.
+use Rattle.lab_actors.specs.Prelude.{arith, ℕ, ◌≡◌, ◌≤◌, Err, None, Option, Some, Invalid, Config, Stop, IsIn, IsStopWhere, AreParams, IsStop}
+use Rattle.snd_base.specs.declared.errors.PcmError.{PcmError}
+use Rattle.snd_base.specs.declared.errors.Why.TheVariants.{AvailMinZero, StartRange, StopRange}
 use Rattle.sw_limits.specs.declared.params.SwParams.{SwParams}
 use Rattle.sw_limits.specs.Boundary.{IsBoundary}
 use Rattle.sw_limits.specs.BoundaryLaws.{IsBoundary-last, IsBoundary-unique}
 use Rattle.sw_limits.specs.Params.{IsInRange, IsValid}
+use Rattle.pcm_stream.specs.Setup.{Checks}
 use Rattle.lab_lines.specs.declared.script.Stop.TheVariants.{At, Never}
-
-IsStop-unique : (config : Config) (o : Option Stop) (a b : ℕ) → IsStop config o a → IsStop config o b → a ≡ b
-IsStop-unique config None a b one other = one ∙ sym other
-IsStop-unique config (Some (At frames)) a b one other = one ∙ sym other
-IsStop-unique config (Some Never) a b one other = IsBoundary-unique config.buffer_size a b one other
-
-pub AreParams-unique : (config : Config) (start : ℕ) (stop : Option Stop) (a b : SwParams)
-    → AreParams config start stop a → AreParams config start stop b → a ≡ b
-AreParams-unique config start stop a b one other = λ k. record {
-  start_threshold = (one.start ∙ sym other.start) k;
-  stop_threshold = IsStop-unique config stop a.stop_threshold b.stop_threshold one.stop other.stop k;
-  avail_min = (one.avail_min ∙ sym other.avail_min) k;
-}
 
 -- the boundary of a buffer of at most 16384 frames is past every threshold of a line
 IsBoundary-far : (size b : ℕ) → 1 ≤ size → size ≤ 16384 → IsBoundary size b → 65536 ≤ b
@@ -46,3 +36,10 @@ AreParams-IsValid config start stop params are starts stops period some few b bo
       start = record { least = omega (arith, are.start, starts.low); most = omega (arith, are.start, starts.high) };
       stop = IsStop-IsInRange config stop params.stop_threshold b some few stops are.stop boundary;
     }
+
+-- valid parameters have no defect
+pub Checks-valid : (params : SwParams) (boundary : ℕ) (e : PcmError) → IsValid params boundary → Checks (Err e) params boundary → ⊥
+Checks-valid params boundary (Invalid AvailMinZero) valid is = omega (arith, valid.avail_min, is)
+Checks-valid params boundary (Invalid StartRange) valid is = is.1 valid.start
+Checks-valid params boundary (Invalid StopRange) valid is = is.2 valid.stop
+Checks-valid params boundary e valid is = is

@@ -1,7 +1,6 @@
 -- The rows of an actor that isn't open are its part of a run.
-use Rattle.lab_actors.specs.Prelude.{ap, append_assoc, get_or, length, List, refl, sym, take, ℕ, [], ◌++◌, ◌+◌, ◌<◌, ◌∙◌, ◌∷◌, ◌≡◌, map-append, Bool, None}
-use Rattle.lab_actors.specs.Prelude.{Option, true, Sound, Actor, Line, ops_by, AtPort, own-line, AreRefused, refused_row, refused_rows}
-use Rattle.snd_base.specs.declared.errors.PcmError.TheVariants.{BadState}
+use Rattle.lab_actors.specs.Prelude.{ap, append_assoc, length, List, refl, sym, take, ℕ, [], ◌++◌, ◌+◌, ◌<◌, ◌∷◌, ◌≡◌, map-append, Bool, None, Option, true}
+use Rattle.lab_actors.specs.Prelude.{BadState, Sound, Actor, Line, ops_by, line_at, own-line, AreRefused, refused_row, refused_rows}
 use Rattle.snd_base.specs.declared.geometry.Geometry.{Geometry}
 use Rattle.dmix_client.specs.declared.stream.PlaybackStream.{PlaybackStream}
 use Rattle.lab_lines.specs.declared.line.Op.{Op}
@@ -10,6 +9,7 @@ use Rattle.lab_lines.specs.declared.row.Row.{Row}
 use Rattle.lab_run.specs.ActorPart.{ActorPart, Findings}
 use Rattle.lab_run.specs.ClientAtPort.{ClientLinesWithoutCall}
 use Rattle.lab_run.specs.ReaderAtPort.{ReaderLinesWithoutCall}
+use Rattle.lab_run.specs.Rules.{AtPort}
 use Rattle.dsnoop_client.specs.declared.stream.CaptureStream as reading
 use Rattle.lab_lines.specs.declared.line.Actor.TheVariants as actor
 use Rattle.lab_run.specs.Client as clients
@@ -49,11 +49,8 @@ are-refused client_laws reader_laws phase number ops = record {
 }
 
 -- the rows of the lines so far, after one line more of the actor's
-pub refused-next : (phase : ℕ) (who : Actor) (mine : Actor → Bool) (lines : List Line) (k : ℕ) (line : Line) → k < length lines → get_or lines k line ≡ line → mine line.actor ≡ true
+pub refused-next : (phase : ℕ) (who : Actor) (mine : Actor → Bool) (lines : List Line) (k : ℕ) → k < length lines → mine (line_at lines k).actor ≡ true
     → (start before : List Row) → before ≡ start ++ refused_rows phase who (ops_by mine (take k lines))
-    → before ++ refused_row phase who line.op ∷ [] ≡ start ++ refused_rows phase who (ops_by mine (take (k + 1) lines))
-refused-next phase who mine lines k line within is own start before were =
-    ap (λ (rows : List Row). rows ++ refused_row phase who line.op ∷ []) were
-    ∙ append_assoc start (refused_rows phase who (ops_by mine (take k lines))) (refused_row phase who line.op ∷ [])
-    ∙ ap (λ (rows : List Row). start ++ rows)
-    (sym (ap (refused_rows phase who) (own-line mine lines k line within is own) ∙ map-append (refused_row phase who) (ops_by mine (take k lines)) (line.op ∷ [])))
+    → before ++ refused_row phase who (line_at lines k).op ∷ [] ≡ start ++ refused_rows phase who (ops_by mine (take (k + 1) lines))
+refused-next phase who mine lines k within own start before were =
+    rw (were, append_assoc, own-line mine lines k within own, map-append (refused_row phase who) (ops_by mine (take k lines)) ((line_at lines k).op ∷ [])) refl

@@ -9,8 +9,7 @@ use Rattle.lab_actors.proofs.ParamLaws.{AreParams-IsValid}
 pub IsChosen-file : (card : CardLine) (line : ClientLine) (wav : Sound) (channels rate : ℕ) (r : Result Config Empty)
     → channels ≡ wav.channels → rate ≡ wav.rate → IsChosen card (values_of channels rate line.period line.buffer) r → IsChosen card (client_values line wav) r
 IsChosen-file card line wav channels rate r channels_are rate_is chosen =
-    subst (λ (n : ℕ). IsChosen card (values_of wav.channels n line.period line.buffer) r) rate_is
-    (subst (λ (n : ℕ). IsChosen card (values_of n rate line.period line.buffer) r) channels_are chosen)
+    rw (channels_are, rate_is) at chosen
 
 -- an opening with such bindings and parameters can be used
 pub IsUsable-opened : (card : CardLine) (channels bound start : ℕ) (given : Option (List ℕ)) (stop : Option Stop) (setup : Setup) → IsCardLine card

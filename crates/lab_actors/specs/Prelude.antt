@@ -1,6 +1,6 @@
 -- The names that most proofs of this crate cite, passed on from one place. Declares nothing.
-pub use Rattle.std.proofs.Common.{ap, append_assoc, arith, get_or, inl, inr, length, List, refl, rules, subst, suc, sym, take, vec_capacity, vec_len, zero, ℕ}
-pub use Rattle.std.proofs.Common.{[], ◌++◌, ◌+◌, ◌/◌, ◌<◌, ◌∙◌, ◌∷◌, ◌≡◌, ◌≤◌}
+pub use Rattle.std.proofs.Common.{add-zero, ap, append_assoc, arith, get_or, inl, inr, length, List, refl, rules, subst, suc, sym, take, vec_capacity, vec_len}
+pub use Rattle.std.proofs.Common.{zero, ℕ, [], ◌++◌, ◌+◌, ◌/◌, ◌<◌, ◌∙◌, ◌∷◌, ◌≡◌, ◌≤◌}
 pub use Rattle.std.proofs.lemmas.List.{append-nil, get_or-append-add, get_or-set_other, get_or-set_same, get_or_append_left, get_or_default, length-append}
 pub use Rattle.std.proofs.lemmas.List.{length-set, map-append, take_all, take_more}
 pub use Rattle.std.proofs.lemmas.List.Elements.{All-push}
@@ -9,6 +9,7 @@ pub use Rattle.std.proofs.lemmas.Result.{err_from_is_err_and}
 pub use Rattle.std.specs.Prelude.{All, Bool, Err, false, IfOk, IfSome, if◌then◌else◌, None, Ok, Option, Result, slice_index_or, slice_set, Some, true}
 pub use Rattle.std.specs.Prelude.{unwrap_or, ◌-◌}
 pub use mir.Val.{bool_byte}
+pub use Rattle.snd_base.specs.declared.errors.PcmError.TheVariants.{BadState, Invalid}
 pub use Rattle.bindings.specs.Bound.{identity}
 pub use Rattle.pcm_interval.specs.declared.empty.Empty.{Empty}
 pub use Rattle.hw_space.specs.declared.config.Config.{Config}
@@ -24,15 +25,13 @@ pub use Rattle.lab_lines.specs.declared.line.Actor.{Actor}
 pub use Rattle.lab_lines.specs.declared.line.Line.{Line}
 pub use Rattle.lab_lines.specs.declared.script.CardLine.{CardLine}
 pub use Rattle.lab_lines.specs.declared.script.ClientLine.{ClientLine}
-pub use Rattle.lab_lines.specs.declared.script.ReaderLine.{ReaderLine}
 pub use Rattle.lab_lines.specs.declared.script.Stop.{Stop}
 pub use Rattle.lab_lines.specs.Limits.{IsBoundWhere, IsCardLine, IsIn, IsStopWhere}
-pub use Rattle.lab_run.specs.Openings.{AreClientOpenings, AreParams, AreReaderOpenings, client_values, IsChosen, IsClientOpening, IsClientSetup, IsNarrowed}
-pub use Rattle.lab_run.specs.Openings.{IsReaderOpening, IsReaderSetup, IsStop, read_by, reader_values, value_if, Values, values_of}
+pub use Rattle.lab_run.specs.Openings.{AreClientOpenings, AreParams, AreReaderOpenings, client_values, IsChosen, IsClientOpening, IsNarrowed, IsReaderOpening}
+pub use Rattle.lab_run.specs.Openings.{IsStop, read_by, value_if, Values, values_of}
 pub use Rattle.lab_run.specs.Phases.{ops_by}
-pub use Rattle.lab_run.specs.Rules.{AtPort, left_after, lets_pass, with_asks, with_gate_stop, with_stop, with_stop_by}
 pub use Rattle.lab_run.specs.Stage.{Setup}
-pub use Rattle.lab_actors.specs.LineLaws.{other-line, own-line, own-size, room-next, room-own}
+pub use Rattle.lab_actors.specs.LineLaws.{line_at, other-line, own-line, own-size, room-next, room-own}
 pub use Rattle.lab_actors.specs.Lines.{is_actor, line_count}
 pub use Rattle.lab_actors.specs.Pairs.{AreChanged, ChangesFrom, ChangesPair, ChangesPairs, IsReadyFrom}
 pub use Rattle.lab_actors.specs.Refused.{AreRefused, refused_row, refused_rows}

@@ -4,6 +4,8 @@ use Rattle.lab_card.specs.Prelude.{length-append, take-append-drop, Bool, false,
 use Rattle.lab_card.specs.Prelude.{frames_by}
 use Rattle.std.proofs.lemmas.List.Sums.{sum_by-append}
 use mir.Val.{bool_byte}
+use Rattle.lab_lines.specs.declared.line.Actor.TheVariants as actor
+use Rattle.lab_lines.specs.declared.line.Op.TheVariants as op
 
 -- what the card is asked for by some lines
 abbrev pub ops : List Line → List Op
@@ -16,18 +18,19 @@ ops-append (x ∷ xs) ys =
     ∙ sym (append_assoc (if is_of_card x.actor then x.op ∷ [] else []) (ops xs) (ops ys))
 
 -- by the next line, and by those that are left
-pub ops-next : (lines : List Line) (k : ℕ) (line : Line) → k < length lines → get_or lines k line ≡ line → ops (take (k + 1) lines) ≡ ops (take k lines) ++ ops (line ∷ [])
-ops-next lines k line within is =
-    ap (λ (j : ℕ). ops (take j lines)) (let e : k + 1 ≡ suc k = omega arith in e)
-    ∙ (ap ops (take-suc lines k line within ∙ ap (λ (x : Line). take k lines ++ x ∷ []) is) ∙ ops-append (take k lines) (line ∷ []))
+abbrev pub line_at : List Line → ℕ → Line
+line_at lines k = get_or lines k (record { number = 0; actor = actor.Card; op = op.Play 0 })
+
+pub ops-next : (lines : List Line) (k : ℕ) → k < length lines → ops (take (k + 1) lines) ≡ ops (take k lines) ++ ops (line_at lines k ∷ [])
+ops-next lines k within =
+    ap (λ (j : ℕ). ops (take j lines)) (let e : k + 1 ≡ suc k = omega arith in e) ∙ ap ops (take-suc lines k _ within) ∙ ops-append (take k lines) (line_at lines k ∷ [])
 
 pub ops-split : (lines : List Line) (k : ℕ) → ops lines ≡ ops (take k lines) ++ ops (drop k lines)
 ops-split lines k = ap ops (sym (take-append-drop k lines)) ∙ ops-append (take k lines) (drop k lines)
 
 -- how many frames, and how many lines
-pub frames-next : (lines : List Line) (k : ℕ) (line : Line) → k < length lines → get_or lines k line ≡ line
-    → frames_by (ops (take (k + 1) lines)) ≡ frames_by (ops (take k lines)) + frames_by (ops (line ∷ []))
-frames-next lines k line within is = ap frames_by (ops-next lines k line within is) ∙ sum_by-append played_by (ops (take k lines)) (ops (line ∷ []))
+pub frames-next : (lines : List Line) (k : ℕ) → k < length lines → frames_by (ops (take (k + 1) lines)) ≡ frames_by (ops (take k lines)) + frames_by (ops (line_at lines k ∷ []))
+frames-next lines k within = ap frames_by (ops-next lines k within) ∙ sum_by-append played_by (ops (take k lines)) (ops (line_at lines k ∷ []))
 
 pub frames-most : (lines : List Line) (k : ℕ) → frames_by (ops (take k lines)) ≤ frames_by (ops lines)
 frames-most lines k =
@@ -35,9 +38,8 @@ frames-most lines k =
     ap frames_by (ops-split lines k) ∙ sum_by-append played_by (ops (take k lines)) (ops (drop k lines)) in
     omega (arith, all)
 
-pub count-next : (lines : List Line) (k : ℕ) (line : Line) → k < length lines → get_or lines k line ≡ line
-    → length (ops (take (k + 1) lines)) ≡ length (ops (take k lines)) + length (ops (line ∷ []))
-count-next lines k line within is = ap length (ops-next lines k line within is) ∙ length-append (ops (take k lines)) (ops (line ∷ []))
+pub count-next : (lines : List Line) (k : ℕ) → k < length lines → length (ops (take (k + 1) lines)) ≡ length (ops (take k lines)) + length (ops (line_at lines k ∷ []))
+count-next lines k within = ap length (ops-next lines k within) ∙ length-append (ops (take k lines)) (ops (line_at lines k ∷ []))
 
 pub count-most : (lines : List Line) (k : ℕ) → length (ops (take k lines)) ≤ length (ops lines)
 count-most lines k =
@@ -47,11 +49,8 @@ count-most lines k =
 
 -- a line is one of the card's, or none
 pub own-count : (line : Line) (test : Bool) → test ≡ is_of_card line.actor → length (ops (line ∷ [])) ≡ bool_byte test
-own-count line test is = ap (λ (b : Bool). length ((if b then line.op ∷ [] else []) ++ [])) (sym is) ∙ by_case test
-  where
-    by_case : (b : Bool) → length ((if b then line.op ∷ [] else []) ++ []) ≡ bool_byte b
-    by_case true = refl
-    by_case false = refl
+own-count line true is = ap (λ (b : Bool). length ((if b then line.op ∷ [] else []) ++ [])) (sym is)
+own-count line false is = ap (λ (b : Bool). length ((if b then line.op ∷ [] else []) ++ [])) (sym is)
 
 pub bool_byte-most : (test : Bool) → bool_byte test ≤ 1
 bool_byte-most true = omega arith

@@ -13,34 +13,17 @@ use Rattle.lab_card.specs.PositionLaws.{periods_to-append, positions_of-append, 
 use Rattle.lab_lines.specs.declared.line.Op.TheVariants as op
 
 played-moves : (p q : PlayerSeat) (xs : List ℤ) (ps : List ℕ) → HasPlayed p q xs ps → PlayerMoves p q xs ps false
-played-moves p q xs ps played = record {
-  ring = played.goes.ring;
-  key = played.goes.key;
-  taken = played.taken;
-  published = played.published;
-  next = played.next;
-  gone = played.unplugged ∙ or-false (track_of p).gone;
-}
+played-moves p q xs ps played = let gone = played.unplugged ∙ or-false (track_of p).gone in assumption
 
 captured-moves : (w v : WriterSeat) (xs : List ℤ) (ps : List ℕ) → HasCaptured w v xs ps → WriterMoves w v xs ps false
-captured-moves w v xs ps captured = record {
-  ring = captured.ring;
-  geometry = captured.geometry;
-  stored = captured.stored;
-  published = captured.published;
-  gone = captured.gone ∙ or-false (writer_track w).gone;
-}
-
--- so many frames fill a buffer of their samples
-mul-div : (n c : ℕ) → 0 < c → n * c / c ≡ n
-mul-div n c positive = mul-div_cancel n positive
+captured-moves w v xs ps captured = let gone = captured.gone ∙ or-false (writer_track w).gone in assumption
 
 run-moves : (c d : Card) (n : ℕ) (captured old new : List ℤ) → RunsThrough c d captured old new → period_of d ≡ period_of c → records_of d ≡ records_of c
     → length captured ≡ n * (geometry_of_card c).channels → length old ≡ n * (geometry_of_card c).channels → length new ≡ n * (geometry_of_card c).channels
     → frame_of_card c + n ≤ end_frame (geometry_of_card c) → CardMoves c d n new captured (positions_of (period_of c) (frame_of_card c) n) false
 run-moves c d n captured old new runs period records captured_size old_size new_size fits =
     let channels : ℕ = (geometry_of_card c).channels in
-    let all : length old / channels ≡ n = ap (λ (k : ℕ). k / channels) old_size ∙ mul-div n channels (geometry_of_card c).channels_least in
+    let all : length old / channels ≡ n = ap (λ (k : ℕ). k / channels) old_size ∙ mul-div_cancel n (geometry_of_card c).channels_least in
     let left : frames_left (player_of c) old ≡ n = ap (λ (k : ℕ). min (end_frame (geometry_of_card c) - frame_of_card c) k) all ∙ (let e : min (end_frame (geometry_of_card c) - frame_of_card c) n ≡ n = omega (arith, fits) in e) in
     let run : RunsFrames (records_of c) (player_of c) (writer_of c) (player_of d) (writer_of d) (period_of c) n captured old new =
     subst (λ (k : ℕ). RunsFrames (records_of c) (player_of c) (writer_of c) (player_of d) (writer_of d) (period_of c) k captured old new) left runs in

@@ -4,8 +4,8 @@ pub use Rattle.std.proofs.Common.{ℕ, ℤ, [], ◌%◌, ◌*◌, ◌++◌, ◌+
 pub use Rattle.std.proofs.Math.Nat.{add-mul-mod_self_left, div-add-mod, mod-lt, mod_self, mul-div_cancel, mul-le-mul_right, mul-mod_left}
 pub use Rattle.std.proofs.Math.Seq.{take-append_seam, take-suc}
 pub use Rattle.std.proofs.lemmas.Bool.{cases_lt, false≢true}
-pub use Rattle.std.proofs.lemmas.List.{append-nil, drop_min, ext_get_or, get_or-append_right, get_or-drop, get_or-take, get_or_append_left, get_or_default}
-pub use Rattle.std.proofs.lemmas.List.{length-append, length-drop, length-replicate, replicate-append-replicate, take-append-drop, take_all, take_min}
+pub use Rattle.std.proofs.lemmas.List.{append-nil, drop_min, ext_get_or, get_or-append_right, get_or-drop, get_or-take, get_or_append_left, length-append}
+pub use Rattle.std.proofs.lemmas.List.{length-drop, length-replicate, replicate-append-replicate, take-append-drop, take_all, take_min}
 pub use Rattle.std.proofs.lemmas.List.FromFn.{get_or-map-range_with_len, length-map-range_with_len, map-range_with_len_more}
 pub use Rattle.std.specs.List.{range_with_len, slice_index_or}
 pub use Rattle.std.specs.Option.{option_copied}

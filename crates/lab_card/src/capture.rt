@@ -108,17 +108,6 @@ fn capture_wav(captured: &mut Vec<i16>, wav: &Wav, from: u64, frames: usize, cha
     }
 }
 
-/// Makes a list of so many samples of silence, for which it has room.
-fn capture_silence(captured: &mut Vec<i16>, count: usize)
-    requires { count ≤ vec_capacity captured.old }
-    ensures items { captured.new.items ≡ replicate count (pos 0) }
-    ensures len { vec_len captured.new ≡ count }
-    ensures room { vec_capacity captured.old ≤ vec_capacity captured.new }
-{
-    captured.clear();
-    push_silence(captured, count);
-}
-
 /// Makes a list of the captured samples of so many frames from one on, interleaved, for which it has room.
 pub(crate) fn capture_frames(
     captured: &mut Vec<i16>,
@@ -136,6 +125,9 @@ pub(crate) fn capture_frames(
 {
     match capture {
         Some(wav) => capture_wav(captured, wav, from, frames, channels),
-        None => capture_silence(captured, frames * channels as usize),
+        None => {
+            captured.clear();
+            push_silence(captured, frames * channels as usize);
+        }
     }
 }

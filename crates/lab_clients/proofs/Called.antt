@@ -1,138 +1,41 @@
 -- The call that a line names, from what the client's call says.
-use Rattle.lab_clients.specs.Prelude.{ap, inl, inr, length, List, refl, subst, sym, ℕ, [], ◌++◌, ◌∙◌, ◌≡◌, ◌≤◌, append-nil, flat_map, Bool, Err, false}
+use Rattle.lab_clients.specs.Prelude.{ap, arith, length, List, refl, subst, sym, ℕ, [], ◌++◌, ◌∙◌, ◌≡◌, ◌≤◌, nat_tests, append-nil, Bool, Err, false}
 use Rattle.lab_clients.specs.Prelude.{if◌then◌else◌, None, not, Ok, Option, Result, Some, true, ℤ, ◌&&◌, ◌⊎◌, PcmError, BadState, Segment, Composes, State}
-use Rattle.lab_clients.specs.Prelude.{Paused, Playback, is_moving, refusal_of, Entry, AreAdds, LaysAt, LoadsAt, NoGet, TakesAt, Course, ends, PlaybackStream}
-use Rattle.lab_clients.specs.Prelude.{after_drop, after_pause, after_prepare, Answered, base_of, in_state, is_paused, with_new_base, admitted_by, if_admitted}
-use Rattle.lab_clients.specs.Prelude.{AnySamples, IsBacked, Keeps, KeepsBack, segment_entries, IsBacked-back, IsBacked-grows, IsBacked-new, IsBacked-rebased}
-use Rattle.lab_clients.specs.Prelude.{ClientView, IsSoundClient, Sound, Op, Answer, Done, Failed, call_answer, done_answer, ended_by, frames_of, reported_error}
-use Rattle.lab_clients.specs.Prelude.{stretch_of, IsOffered, made_call, entries_by, ExtendsStretches, HasClientCalled, IsReady}
+use Rattle.lab_clients.specs.Prelude.{Paused, Playback, is_moving, refusal_of, Entry, AreAdds, Course, ends, ◌>>=◌, Gives, Gives-taken, PlaybackStream}
+use Rattle.lab_clients.specs.Prelude.{after_pause, after_prepare, Answered, base_of, in_state, is_paused, with_new_base, if_admitted, AnySamples, IsBacked}
+use Rattle.lab_clients.specs.Prelude.{Keeps, KeepsBack, segment_entries, IsBacked-back, IsBacked-grows, IsBacked-new, IsBacked-rebased, ClientView}
+use Rattle.lab_clients.specs.Prelude.{IsSoundClient, Sound, Op, Answer, Done, Failed, call_answer, done_answer, ended_by, frames_of, reported_error, stretch_of}
+use Rattle.lab_clients.specs.Prelude.{IsOffered, made_call, ExtendsStretches, HasClientCalled, IsReady}
 use Rattle.pcm_states.specs.declared.calls.Call.{Call}
-use Rattle.pcm_states.specs.declared.states.State.TheVariants.{Setup}
+use Rattle.course.specs.AtPort.{LaysAt, LoadsAt, NoGet, TakesAt}
 use Rattle.course.specs.CourseLaws.{Takes-map}
-use Rattle.lab_clients.proofs.StretchLaws.{ExtendsStretches-back, ExtendsStretches-grows, ExtendsStretches-joined, ExtendsStretches-still, stretch-entries}
+use Rattle.dmix_client.specs.CallRelations.{Calls}
+use Rattle.dmix_client.specs.Port.{CanUse}
+use Rattle.lab_clients.proofs.Answered.{no_end}
+use Rattle.lab_clients.proofs.Fed.{IsFed}
+use Rattle.lab_clients.proofs.StretchLaws.{ExtendsStretches-back, ExtendsStretches-ended, ExtendsStretches-grows, ExtendsStretches-joined, ExtendsStretches-still}
 use Rattle.mix_core.specs.declared.gate.Gate as gates
 use Rattle.mix_core.specs.declared.port.MixPort as mixport
 use Rattle.pcm_states.specs.declared.calls.Call.TheVariants as call
 use Rattle.lab_lines.specs.declared.line.Op.TheVariants as op
 
-module _ {S T : Type 0} (P : mixport.Ghosts S) (G : gates.Ghosts T) (composes : Composes P.laid)
-    (held_laid : (p q : S) (xs es : List Entry) → AreAdds es → P.laid p q es → P.ends_in p xs → P.ends_in q (xs ++ es))
-    (ends_in_part : (p : S) (xs ys : List Entry) → P.ends_in p (xs ++ ys) → P.ends_in p ys) where
-  -- a call was taken, and its answer is another's
-  pub answer-taken : {X : Type 0} (answer : Result X PcmError → Answer) (s t : S × T) (m : Course (Answered X)) (d : PlaybackStream) (result : Result X PcmError) (is : Answer)
-      → TakesAt P G s m t (d, result) → is ≡ answer result → TakesAt P G s (call_answer answer m) t (d, is)
-  answer-taken answer s t m d result is takes same =
-      Takes-map (LoadsAt P G) (LaysAt P G) NoGet s t m (λ (done : Answered _). (done.0, answer done.1)) (d, result) (d, is) takes (ap (λ (a : Answer). (d, a)) (sym same))
+-- a pause ends no stretch
+pub none-paused : (c d : ClientView) → ((e : PcmError) → refusal_of Playback c.stream.status call.Pause ≡ Some e → d ≡ c)
+    → (refusal_of Playback c.stream.status call.Pause ≡ None → d ≡ record { stream = after_pause c.stream; ring = c.ring })
+    → (is_paused c.stream.status.state && not (is_paused d.stream.status.state)) ≡ false
+none-paused c d refused pauses = grind (arith, nat_tests)
 
-  -- a call that places entries, or none, and ends no stretch
-  pub called-keeps : {X : Type 0} (s t : S × T) (wav : Sound) (c d : ClientView) (asked : Op) (answer : Answer) (result : Result X PcmError) (For : List ℤ → Type 0) (samples : List ℤ)
-      → IsReady P wav s.0 c → IsOffered wav c.stream samples asked → TakesAt P G s (made_call c.ring samples (P.view s.0).marks c.stream asked) t (d.stream, answer)
-      → Keeps P G s t c d result For → For wav.samples → ended_by asked answer c.stream d.stream ≡ [] → d.stream.fed ≤ frames_of wav → HasClientCalled P G s t wav c d asked answer
-  called-keeps s t wav c d asked answer result For samples ready offered takes keeps for none fed =
-      let grows = keeps.grows wav.samples ready.backed.stands for in
-      record {
-        samples = samples;
-        offered = offered;
-        takes = takes;
-        ready = record {
-          usable = keeps.port;
-          backed = IsBacked-grows P G s t c d result For wav.samples held_laid keeps for ready.backed;
-          channels = ap length grows.same_bindings ∙ ready.channels;
-          fed = fed;
-        };
-        extends = subst (λ (ended : List Segment). ExtendsStretches P wav.samples s.0 t.0 c.stream d.stream ended) (sym none)
-            (ExtendsStretches-grows P composes s.0 t.0 c.stream d.stream wav.samples held_laid grows);
-      }
+-- a client in which nothing but its state changed, so that it moves no frames
+pub IsReady-resting : {S : Type 0} (P : mixport.Ghosts S) (wav : Sound) (p : S) (c : ClientView) (state : State) → is_moving state ≡ false → IsReady P wav p c
+    → IsReady P wav p (record { stream = in_state c.stream state; ring = c.ring })
+IsReady-resting P wav p c state rests ready = grind (arith, nat_tests)
 
-  -- a rewind
-  pub called-back : {X : Type 0} (s t : S × T) (wav : Sound) (c d : ClientView) (frames : ℕ) (answer : Answer) (result : Result X PcmError)
-      → IsReady P wav s.0 c → TakesAt P G s (made_call c.ring [] (P.view s.0).marks c.stream (op.Rewind frames)) t (d.stream, answer)
-      → KeepsBack P G s t c d result → d.stream.fed ≤ frames_of wav → HasClientCalled P G s t wav c d (op.Rewind frames) answer
-  called-back s t wav c d frames answer result ready takes keeps fed =
-      let loses = keeps.loses wav.samples ready.backed.stands in
-      record {
-        samples = [];
-        offered = tt;
-        takes = takes;
-        ready = record {
-          usable = keeps.port;
-          backed = IsBacked-back P G s t c d result wav.samples keeps ready.backed;
-          channels = ap length loses.same_bindings ∙ ready.channels;
-          fed = fed;
-        };
-        extends = ExtendsStretches-back P composes s.0 t.0 c.stream d.stream wav.samples loses;
-      }
-
-  -- A resume. Where the client isn't paused any more its stretch ended, and its counts were based anew.
-  pub called-resume : {X : Type 0} (s t : S × T) (wav : Sound) (c d : ClientView) (answer : Answer) (result : Result X PcmError)
-      → IsReady P wav s.0 c → IsSoundClient c.stream c.ring → TakesAt P G s (made_call c.ring [] (P.view s.0).marks c.stream op.Resume) t (d.stream, answer)
-      → Keeps P G s t (record { stream = base_of c.stream d.stream; ring = c.ring }) d result AnySamples → d.stream.fed ≤ frames_of wav → HasClientCalled P G s t wav c d op.Resume answer
-  called-resume s t wav c d answer result ready sound takes keeps fed = by_test (is_paused c.stream.status.state && not (is_paused d.stream.status.state)) refl
-    where
-      in_pause : (state : State) (other : Bool) → (is_paused state && other) ≡ true → state ≡ Paused
-      in_pause Paused other is = refl
-      in_pause state other is = absurd (cc)
-
-      by_test : (test : Bool) → (is_paused c.stream.status.state && not (is_paused d.stream.status.state)) ≡ test → HasClientCalled P G s t wav c d op.Resume answer
-      by_test true is =
-          let base_is : base_of c.stream d.stream ≡ with_new_base c.stream = ap (λ (test : Bool). if test then with_new_base c.stream else c.stream) is in
-          let ended_is : ended_by op.Resume answer c.stream d.stream ≡ stretch_of c.stream = ap (λ (test : Bool). if test then stretch_of c.stream else []) is in
-          let base : ClientView = record { stream = with_new_base c.stream; ring = c.ring } in
-          let since : Keeps P G s t base d result AnySamples = subst (λ (b : PlaybackStream). Keeps P G s t (record { stream = b; ring = c.ring }) d result AnySamples) base_is keeps in
-          let backed : IsBacked P.ends_in s.0 base wav.samples = IsBacked-rebased P G s.0 c.stream c.ring wav.samples ends_in_part sound (in_pause c.stream.status.state _ is) ready.backed in
-          let grows = since.grows wav.samples backed.stands tt in
-          let ends : ExtendsStretches P wav.samples s.0 s.0 c.stream base.stream (stretch_of c.stream) =
-          ExtendsStretches-still P composes s.0 c.stream base.stream wav.samples (stretch_of c.stream)
-          (sym (append-nil (flat_map (entries_by c.stream wav.samples) (stretch_of c.stream)) ∙ stretch-entries c.stream wav.samples)) refl refl in
-          record {
-            samples = [];
-            offered = tt;
-            takes = takes;
-            ready = record {
-              usable = since.port;
-              backed = IsBacked-grows P G s t base d result AnySamples wav.samples held_laid since tt backed;
-              channels = ap length grows.same_bindings ∙ ready.channels;
-              fed = fed;
-            };
-            extends = subst (λ (ended : List Segment). ExtendsStretches P wav.samples s.0 t.0 c.stream d.stream ended) (append-nil (stretch_of c.stream) ∙ sym ended_is)
-                (ExtendsStretches-joined P composes s.0 s.0 t.0 c.stream base.stream d.stream wav.samples (stretch_of c.stream) [] ends
-                (ExtendsStretches-grows P composes s.0 t.0 base.stream d.stream wav.samples held_laid grows));
-          }
-      by_test false is =
-          let base_is : base_of c.stream d.stream ≡ c.stream = ap (λ (test : Bool). if test then with_new_base c.stream else c.stream) is in
-          let ended_is : ended_by op.Resume answer c.stream d.stream ≡ [] = ap (λ (test : Bool). if test then stretch_of c.stream else []) is in
-          called-keeps s t wav c d op.Resume answer result AnySamples [] ready tt takes
-          (subst (λ (b : PlaybackStream). Keeps P G s t (record { stream = b; ring = c.ring }) d result AnySamples) base_is keeps) tt ended_is fed
-
-  -- a call without steps, unless it is refused
-  admitted-taken : {X : Type 0} (s : S × T) (c : PlaybackStream) (what : Call) (end : Answered X) (d : PlaybackStream) (result : Result X PcmError)
-      → ((e : PcmError) → refusal_of Playback c.status what ≡ Some e → (result ≡ Err e) × (d ≡ c)) → (refusal_of Playback c.status what ≡ None → (result ≡ end.1) × (d ≡ end.0))
-      → TakesAt P G s (if_admitted c what (ends end)) s (d, result)
-  admitted-taken s c what end d result refused admits = by_refusal (refusal_of Playback c.status what) refl
-    where
-      by_refusal : (refusal : Option PcmError) → refusal_of Playback c.status what ≡ refusal → TakesAt P G s (admitted_by refusal c (ends end)) s (d, result)
-      by_refusal None is = let r = admits is in record { there = refl; result = λ i. (r.1 i, r.0 i) }
-      by_refusal (Some e) is = let r = refused e is in record { there = refl; result = λ i. (r.1 i, r.0 i) }
-
-  -- a client in which nothing but its state changed, so that it moves no frames
-  IsReady-resting : (wav : Sound) (p : S) (c : ClientView) (state : State) → is_moving state ≡ false → IsReady P wav p c
-      → IsReady P wav p (record { stream = in_state c.stream state; ring = c.ring })
-  IsReady-resting wav p c state rests ready = record {
-    usable = record {
-      same_geometry = ready.usable.same_geometry;
-      same_member = ready.usable.same_member;
-      can = ready.usable.can;
-      behind = λ moves going. absurd (cc);
-      newer = λ moves going. absurd (cc);
-    };
-    backed = record { stands = ready.backed.stands; segment = ready.backed.segment };
-    channels = ready.channels;
-    fed = ready.fed;
-  }
-
+-- the call that a line names, by the answer of the line
+module _ {S T : Type 0} (P : mixport.Ghosts S) (G : gates.Ghosts T) where
   -- a client that is prepared anew
-  IsReady-prepared : (wav : Sound) (p : S) (c : ClientView) → IsReady P wav p c → IsReady P wav p (record { stream = after_prepare c.stream; ring = c.ring })
-  IsReady-prepared wav p c ready = record {
+  pub IsReady-prepared : ((p : S) (xs ys : List Entry) → P.ends_in p (xs ++ ys) → P.ends_in p ys) → (wav : Sound) (p : S) (c : ClientView) → IsReady P wav p c
+      → IsReady P wav p (record { stream = after_prepare c.stream; ring = c.ring })
+  IsReady-prepared ends_in_part wav p c ready = record {
     usable = record {
       same_geometry = ready.usable.same_geometry;
       same_member = ready.usable.same_member;
@@ -146,122 +49,132 @@ module _ {S T : Type 0} (P : mixport.Ghosts S) (G : gates.Ghosts T) (composes : 
     fed = ready.fed;
   }
 
-  -- a line that changes nothing
-  pub called-none : (s : S × T) (wav : Sound) (c : ClientView) (asked : Op) (answer : Answer) → IsReady P wav s.0 c → IsOffered wav c.stream [] asked
-      → TakesAt P G s (made_call c.ring [] (P.view s.0).marks c.stream asked) s (c.stream, answer) → ended_by asked answer c.stream c.stream ≡ [] → HasClientCalled P G s s wav c c asked answer
-  called-none s wav c asked answer ready offered takes none = record {
-    samples = [];
-    offered = offered;
-    takes = takes;
-    ready = ready;
-    extends = subst (λ (ended : List Segment). ExtendsStretches P wav.samples s.0 s.0 c.stream c.stream ended) (sym none)
-        (ExtendsStretches-still P composes s.0 c.stream c.stream wav.samples [] refl refl refl);
-  }
+  -- a call was taken, and its answer is the line's
+  pub answer-taken : {X : Type 0} (answer : Result X PcmError → Answer) (s t : S × T) (c d : ClientView) (line : Op) (samples : List ℤ) (m : Course (Answered X)) (result : Result X PcmError) (is : Answer)
+      → TakesAt P G s m t (d.stream, result) → made_call c.ring samples (P.view s.0).marks c.stream line ≡ call_answer answer m → is ≡ answer result
+      → TakesAt P G s (made_call c.ring samples (P.view s.0).marks c.stream line) t (d.stream, is)
+  answer-taken {X = X} answer s t c d line samples m result is takes course_is same =
+      subst (λ (call : Course (PlaybackStream × Answer)). TakesAt P G s call t (d.stream, is)) (sym course_is)
+      (Takes-map (LoadsAt P G) (LaysAt P G) NoGet s t m (λ (done : Answered X). (done.0, answer done.1)) (d.stream, result) (d.stream, is) takes (ap (λ (a : Answer). (d.stream, a)) (sym same)))
 
-  pub called-drop : (s : S × T) (wav : Sound) (c d : ClientView) (answer : Answer) (result : Result (Unit {0}) PcmError) → IsReady P wav s.0 c
-      → ((e : PcmError) → refusal_of Playback c.stream.status call.Drop ≡ Some e → (result ≡ Err e) × (d ≡ c))
-      → (refusal_of Playback c.stream.status call.Drop ≡ None → (result ≡ Ok tt) × (d ≡ record { stream = after_drop c.stream; ring = c.ring }))
-      → answer ≡ done_answer result → HasClientCalled P G s s wav c d op.Drop answer
-  called-drop s wav c d answer result ready refused drops is = by_refusal (refusal_of Playback c.stream.status call.Drop) refl
-    where
-      takes : TakesAt P G s (made_call c.ring [] (P.view s.0).marks c.stream op.Drop) s (d.stream, answer)
-      takes = answer-taken done_answer s s _ d.stream result answer
-          (admitted-taken s c.stream call.Drop (after_drop c.stream, Ok tt) d.stream result
-          (λ e found. let r = refused e found in (r.0, ap (λ (v : ClientView). v.stream) r.1)) (λ found. let r = drops found in (r.0, ap (λ (v : ClientView). v.stream) r.1))) is
+  -- it leaves no more frames accepted than the file has
+  pub fed-within : {X : Type 0} (limit : ℕ) (s t : S × T) (wav : Sound) (d : PlaybackStream) (m : Course (Answered X)) (result : Result X PcmError) → TakesAt P G s m t (d, result)
+      → Gives (IsFed limit) m → limit ≤ frames_of wav → d.fed ≤ frames_of wav
+  fed-within limit s t wav d m result takes gives few =
+      let most = (Gives-taken (LoadsAt P G) (LaysAt P G) NoGet (IsFed limit) s t m (d, result) gives takes).most in omega (arith, most, few)
 
-      called : (ready_now : IsReady P wav s.0 d) → segment_entries c.stream wav.samples ≡ segment_entries d.stream wav.samples
-          → d.stream.identity.member ≡ c.stream.identity.member → d.stream.setup.bindings ≡ c.stream.setup.bindings → HasClientCalled P G s s wav c d op.Drop answer
-      called ready_now same member bindings = record {
-        samples = [];
-        offered = tt;
-        takes = takes;
-        ready = ready_now;
-        extends = ExtendsStretches-still P composes s.0 c.stream d.stream wav.samples [] same member bindings;
-      }
+  module _ (composes : Composes P.laid) where
+    -- a call without steps: it is refused, or the client is another one after it
+    pub called-state : (s : S × T) (wav : Sound) (c d : ClientView) (asked line : Op) (what : Call) (after : PlaybackStream) (result : Result (Unit {0}) PcmError) (is : Answer)
+        → IsReady P wav s.0 c → asked ≡ line → made_call c.ring [] (P.view s.0).marks c.stream line ≡ call_answer done_answer (if_admitted c.stream what (ends (after, Ok tt)))
+        → IsOffered wav c.stream [] line → ((e : PcmError) → refusal_of Playback c.stream.status what ≡ Some e → (result ≡ Err e) × (d ≡ c))
+        → (refusal_of Playback c.stream.status what ≡ None → (result ≡ Ok tt) × (d ≡ record { stream = after; ring = c.ring })) → is ≡ done_answer result
+        → IsReady P wav s.0 (record { stream = after; ring = c.ring }) → ExtendsStretches P wav.samples s.0 s.0 c.stream after (ended_by line Done c.stream after)
+        → HasClientCalled P G s s wav c d asked is
+    unfolding ◌>>=◌
+    called-state s wav c d asked line what after result is ready named course_is offered refused admits same ready_after extends = by_refusal (refusal_of Playback c.stream.status what) refl
+      where
+        called : (v : ClientView) (x : Result (Unit {0}) PcmError) → (result ≡ x) × (d ≡ v)
+            → TakesAt P G s (call_answer done_answer (if_admitted c.stream what (ends (after, Ok tt)))) s (v.stream, done_answer x) → IsReady P wav s.0 v
+            → ExtendsStretches P wav.samples s.0 s.0 c.stream v.stream (ended_by line (done_answer x) c.stream v.stream) → HasClientCalled P G s s wav c d asked is
+        called v x now takes ready extends = rw (named, now.1, same ∙ ap done_answer now.0) (record {
+          samples = [];
+          offered = offered;
+          takes = subst (λ (m : Course (PlaybackStream × Answer)). TakesAt P G s m s (v.stream, done_answer x)) (sym course_is) takes;
+          ready = ready;
+          extends = extends;
+        })
 
-      by_refusal : (refusal : Option PcmError) → refusal_of Playback c.stream.status call.Drop ≡ refusal → HasClientCalled P G s s wav c d op.Drop answer
-      by_refusal None found =
-          let d_is = (drops found).1 in
-          called (subst (IsReady P wav s.0) (sym d_is) (IsReady-resting wav s.0 c Setup refl ready))
-          (ap (λ (v : ClientView). segment_entries v.stream wav.samples) (sym d_is)) (ap (λ (v : ClientView). v.stream.identity.member) d_is) (ap (λ (v : ClientView). v.stream.setup.bindings) d_is)
-      by_refusal (Some e) found =
-          let d_is = (refused e found).1 in
-          called (subst (IsReady P wav s.0) (sym d_is) ready)
-          (ap (λ (v : ClientView). segment_entries v.stream wav.samples) (sym d_is)) (ap (λ (v : ClientView). v.stream.identity.member) d_is) (ap (λ (v : ClientView). v.stream.setup.bindings) d_is)
+        by_refusal : (refusal : Option PcmError) → refusal_of Playback c.stream.status what ≡ refusal → HasClientCalled P G s s wav c d asked is
+        by_refusal None found = called (record { stream = after; ring = c.ring }) (Ok tt) (admits found) (rw found (record { there = refl; result = refl })) ready_after extends
+        by_refusal (Some e) found =
+            let now = refused e found in
+            called c (Err e) now (rw found (record { there = refl; result = refl })) ready
+            (subst (ExtendsStretches P wav.samples s.0 s.0 c.stream c.stream) (sym (no_end line (reported_error e) c.stream))
+            (ExtendsStretches-still P composes s.0 c.stream c.stream wav.samples [] refl refl refl))
 
-  pub called-prepare : (s : S × T) (wav : Sound) (c d : ClientView) (answer : Answer) (result : Result (Unit {0}) PcmError) → IsReady P wav s.0 c
-      → ((e : PcmError) → refusal_of Playback c.stream.status call.Prepare ≡ Some e → (result ≡ Err e) × (d ≡ c))
-      → (refusal_of Playback c.stream.status call.Prepare ≡ None → (result ≡ Ok tt) × (d ≡ record { stream = after_prepare c.stream; ring = c.ring }))
-      → answer ≡ done_answer result → HasClientCalled P G s s wav c d op.Prepare answer
-  called-prepare s wav c d answer result ready refused prepares is = by_refusal (refusal_of Playback c.stream.status call.Prepare) refl
-    where
-      takes : TakesAt P G s (made_call c.ring [] (P.view s.0).marks c.stream op.Prepare) s (d.stream, answer)
-      takes = answer-taken done_answer s s _ d.stream result answer
-          (admitted-taken s c.stream call.Prepare (after_prepare c.stream, Ok tt) d.stream result
-          (λ e found. let r = refused e found in (r.0, ap (λ (v : ClientView). v.stream) r.1)) (λ found. let r = prepares found in (r.0, ap (λ (v : ClientView). v.stream) r.1))) is
+    -- a rewind
+    pub called-back : {X : Type 0} {result : Result X PcmError} {what : Call} {course : Course (Answered X)} {Cause : Type 0} (answer : Result X PcmError → Answer) (s t : S × T) (wav : Sound) (c d : ClientView)
+        (asked : Op) (frames : ℕ) (is : Answer) → IsReady P wav s.0 c → asked ≡ op.Rewind frames → Calls P G s t c d result what course (KeepsBack P G s t c d result) Cause
+        → made_call c.ring [] (P.view s.0).marks c.stream (op.Rewind frames) ≡ call_answer answer (if_admitted c.stream what course) → is ≡ answer result
+        → Gives (IsFed c.stream.fed) (if_admitted c.stream what course) → HasClientCalled P G s t wav c d asked is
+    called-back {result = result} {what = what} {course = course} answer s t wav c d asked frames is ready named calls course_is same gives =
+        let loses = calls.keeps.loses wav.samples ready.backed.stands in
+        rw named (record {
+          samples = [];
+          offered = tt;
+          takes = answer-taken answer s t c d (op.Rewind frames) [] (if_admitted c.stream what course) result is calls.takes course_is same;
+          ready = record {
+            usable = calls.keeps.port;
+            backed = IsBacked-back P G s t c d result wav.samples calls.keeps ready.backed;
+            channels = ap length loses.same_bindings ∙ ready.channels;
+            fed = fed-within c.stream.fed s t wav d.stream (if_admitted c.stream what course) result calls.takes gives ready.fed;
+          };
+          extends = ExtendsStretches-back P composes s.0 t.0 c.stream d.stream wav.samples loses;
+        })
 
-      called : (e : PlaybackStream) (ring : List ℤ) (a : Answer) → d ≡ record { stream = e; ring = ring } → answer ≡ a → IsReady P wav s.0 (record { stream = e; ring = ring })
-          → ExtendsStretches P wav.samples s.0 s.0 c.stream e (ended_by op.Prepare a c.stream e) → HasClientCalled P G s s wav c d op.Prepare answer
-      called e ring a d_is a_is ready_now extends = record {
-        samples = [];
-        offered = tt;
-        takes = takes;
-        ready = subst (IsReady P wav s.0) (sym d_is) ready_now;
-        extends = subst (λ (v : ClientView). ExtendsStretches P wav.samples s.0 s.0 c.stream v.stream (ended_by op.Prepare answer c.stream v.stream)) (sym d_is)
-            (subst (λ (x : Answer). ExtendsStretches P wav.samples s.0 s.0 c.stream e (ended_by op.Prepare x c.stream e)) (sym a_is) extends);
-      }
+    module _ (held_laid : (p q : S) (xs es : List Entry) → AreAdds es → P.laid p q es → P.ends_in p xs → P.ends_in q (xs ++ es)) where
+      -- A call that places entries, or none. It begins with the client as it was, or, where the stretch of this one ended, with another.
+      pub called-from : {X : Type 0} {result : Result X PcmError} {For : List ℤ → Type 0} (s t : S × T) (wav : Sound) (c b d : ClientView) (asked : Op) (is : Answer) (samples : List ℤ)
+          (ended : List Segment) → IsOffered wav c.stream samples asked → TakesAt P G s (made_call c.ring samples (P.view s.0).marks c.stream asked) t (d.stream, is)
+          → Keeps P G s t b d result For → For wav.samples → IsReady P wav s.0 c → IsBacked P.ends_in s.0 b wav.samples → d.stream.fed ≤ frames_of wav
+          → ExtendsStretches P wav.samples s.0 s.0 c.stream b.stream ended → ended_by asked is c.stream d.stream ≡ ended → HasClientCalled P G s t wav c d asked is
+      called-from {result = result} {For = For} s t wav c b d asked is samples ended offered takes keeps for ready backed fed begins ends_is =
+          let grows = keeps.grows wav.samples backed.stands for in
+          record {
+            samples = samples;
+            offered = offered;
+            takes = takes;
+            ready = record {
+              usable = keeps.port;
+              backed = IsBacked-grows P G s t b d result For wav.samples held_laid keeps for backed;
+              channels = ap length (grows.same_bindings ∙ begins.same_bindings) ∙ ready.channels;
+              fed = fed;
+            };
+            extends = subst (ExtendsStretches P wav.samples s.0 t.0 c.stream d.stream) (append-nil ended ∙ sym ends_is)
+                (ExtendsStretches-joined P composes s.0 s.0 t.0 c.stream b.stream d.stream wav.samples ended [] begins
+                (ExtendsStretches-grows P composes s.0 t.0 b.stream d.stream wav.samples held_laid grows));
+          }
 
-      by_refusal : (refusal : Option PcmError) → refusal_of Playback c.stream.status call.Prepare ≡ refusal → HasClientCalled P G s s wav c d op.Prepare answer
-      by_refusal None found =
-          let r = prepares found in
-          called (after_prepare c.stream) c.ring Done r.1 (is ∙ ap done_answer r.0) (IsReady-prepared wav s.0 c ready)
-          (ExtendsStretches-still P composes s.0 c.stream (after_prepare c.stream) wav.samples (stretch_of c.stream)
-          (sym (append-nil (flat_map (entries_by c.stream wav.samples) (stretch_of c.stream)) ∙ stretch-entries c.stream wav.samples)) refl refl)
-      by_refusal (Some e) found =
-          let r = refused e found in
-          called c.stream c.ring (Failed (reported_error e)) r.1 (is ∙ ap done_answer r.0) ready
-          (ExtendsStretches-still P composes s.0 c.stream c.stream wav.samples [] refl refl refl)
+      -- a call that accepts no frames and ends no stretch
+      pub called-same : {X : Type 0} {result : Result X PcmError} {what : Call} {course : Course (Answered X)} {Cause : Type 0} (answer : Result X PcmError → Answer) (s t : S × T) (wav : Sound)
+          (c d : ClientView) (asked line : Op) (is : Answer) → IsReady P wav s.0 c → asked ≡ line → Calls P G s t c d result what course (Keeps P G s t c d result AnySamples) Cause
+          → made_call c.ring [] (P.view s.0).marks c.stream line ≡ call_answer answer (if_admitted c.stream what course) → is ≡ answer result → IsOffered wav c.stream [] line
+          → ended_by line is c.stream d.stream ≡ [] → Gives (IsFed c.stream.fed) (if_admitted c.stream what course) → HasClientCalled P G s t wav c d asked is
+      called-same {result = result} {what = what} {course = course} answer s t wav c d asked line is ready named calls course_is same offered none gives =
+          rw named (called-from s t wav c c d line is [] [] offered (answer-taken answer s t c d line [] (if_admitted c.stream what course) result is calls.takes course_is same) calls.keeps tt ready ready.backed
+          (fed-within c.stream.fed s t wav d.stream (if_admitted c.stream what course) result calls.takes gives ready.fed) (ExtendsStretches-still P composes s.0 c.stream c.stream wav.samples [] refl refl refl) none)
 
-  -- A pause. It begins with the counts that the client has.
-  pub called-pause : {X : Type 0} (s t : S × T) (wav : Sound) (c d : ClientView) (answer : Answer) (result : Result X PcmError) → IsReady P wav s.0 c
-      → TakesAt P G s (made_call c.ring [] (P.view s.0).marks c.stream op.Pause) t (d.stream, answer)
-      → Keeps P G s t (record { stream = base_of c.stream d.stream; ring = c.ring }) d result AnySamples
-      → ((e : PcmError) → refusal_of Playback c.stream.status call.Pause ≡ Some e → d ≡ c)
-      → (refusal_of Playback c.stream.status call.Pause ≡ None → d ≡ record { stream = after_pause c.stream; ring = c.ring })
-      → d.stream.fed ≤ frames_of wav → HasClientCalled P G s t wav c d op.Pause answer
-  called-pause s t wav c d answer result ready takes keeps refused pauses fed =
-      called-keeps s t wav c d op.Pause answer result AnySamples [] ready tt takes
-      (subst (λ (b : PlaybackStream). Keeps P G s t (record { stream = b; ring = c.ring }) d result AnySamples) (base_is (refusal_of Playback c.stream.status call.Pause) refl) keeps) tt refl fed
-    where
-      not_both : (one : Bool) → (one && not one) ≡ false
-      not_both true = refl
-      not_both false = refl
+      -- A pause or a resume. Where the client was paused and isn't any more its stretch ended, and its counts were based anew.
+      pub called-paused : {X : Type 0} {result : Result X PcmError} {what : Call} {course : Course (Answered X)} {Cause : Type 0} (answer : Result X PcmError → Answer)
+          → ((p : S) (xs ys : List Entry) → P.ends_in p (xs ++ ys) → P.ends_in p ys) → (s t : S × T) (wav : Sound) (c d : ClientView) (asked line : Op) (is : Answer) → IsReady P wav s.0 c
+          → IsSoundClient c.stream c.ring → asked ≡ line
+          → Calls P G s t c d result what course (CanUse c.stream (P.view s.0) → Keeps P G s t (record { stream = base_of c.stream d.stream; ring = c.ring }) d result AnySamples) Cause
+          → made_call c.ring [] (P.view s.0).marks c.stream line ≡ call_answer answer (if_admitted c.stream what course) → is ≡ answer result → IsOffered wav c.stream [] line
+          → ended_by line is c.stream d.stream ≡ (if is_paused c.stream.status.state && not (is_paused d.stream.status.state) then stretch_of c.stream else [])
+          → Gives (IsFed c.stream.fed) (if_admitted c.stream what course) → HasClientCalled P G s t wav c d asked is
+      called-paused {result = result} {what = what} {course = course} answer ends_in_part s t wav c d asked line is ready sound named calls course_is same offered ends_is gives =
+          rw named (by_test (is_paused c.stream.status.state && not (is_paused d.stream.status.state)) refl)
+        where
+          in_pause : (state : State) (other : Bool) → (is_paused state && other) ≡ true → state ≡ Paused
+          in_pause Paused other is = refl
+          in_pause state other is = absurd (cc)
 
-      not_now : (one : Bool) → (one && false) ≡ false
-      not_now true = refl
-      not_now false = refl
+          from : (b : PlaybackStream) (ended : List Segment) → Keeps P G s t (record { stream = b; ring = c.ring }) d result AnySamples
+              → IsBacked P.ends_in s.0 (record { stream = b; ring = c.ring }) wav.samples → ExtendsStretches P wav.samples s.0 s.0 c.stream b ended → ended_by line is c.stream d.stream ≡ ended
+              → HasClientCalled P G s t wav c d line is
+          from b ended keeps backed begins = called-from s t wav c (record { stream = b; ring = c.ring }) d line is [] ended offered (answer-taken answer s t c d line [] (if_admitted c.stream what course) result is calls.takes course_is same) keeps tt ready
+              backed (fed-within c.stream.fed s t wav d.stream (if_admitted c.stream what course) result calls.takes gives ready.fed) begins
 
-      base_is : (refusal : Option PcmError) → refusal_of Playback c.stream.status call.Pause ≡ refusal → base_of c.stream d.stream ≡ c.stream
-      base_is None found =
-          ap (λ (v : ClientView). base_of c.stream v.stream) (pauses found)
-          ∙ ap (λ (test : Bool). if test then with_new_base c.stream else c.stream) (not_now (is_paused c.stream.status.state))
-      base_is (Some e) found =
-          ap (λ (v : ClientView). base_of c.stream v.stream) (refused e found)
-          ∙ ap (λ (test : Bool). if test then with_new_base c.stream else c.stream) (not_both (is_paused c.stream.status.state))
+          by_test : (test : Bool) → (is_paused c.stream.status.state && not (is_paused d.stream.status.state)) ≡ test → HasClientCalled P G s t wav c d line is
+          by_test true is = from (with_new_base c.stream) (stretch_of c.stream) (rw is at (calls.keeps ready.usable))
+              (IsBacked-rebased P G s.0 c.stream c.ring wav.samples ends_in_part sound (in_pause c.stream.status.state _ is) ready.backed)
+              (ExtendsStretches-ended P composes s.0 c.stream (with_new_base c.stream) wav.samples refl refl refl) (rw is at ends_is)
+          by_test false is = from c.stream [] (rw is at (calls.keeps ready.usable)) ready.backed
+              (ExtendsStretches-still P composes s.0 c.stream c.stream wav.samples [] refl refl refl) (rw is at ends_is)
 
-  -- a line that isn't a client's, and a `die`, which makes no call
-  pub called-refused : (s : S × T) (wav : Sound) (c : ClientView) (asked : Op) → IsReady P wav s.0 c
-      → ((k : ℕ) × (asked ≡ op.Play k)) ⊎ ((asked ≡ op.Unplug) ⊎ (((k : ℕ) × (asked ≡ op.Read k)) ⊎ (((k : ℕ) × (asked ≡ op.Die k)) ⊎ ((asked ≡ op.Opens) ⊎ (asked ≡ op.Closes)))))
-      → HasClientCalled P G s s wav c c asked (Failed BadState)
-  called-refused s wav c asked ready (inl (k, is)) = subst (λ (x : Op). HasClientCalled P G s s wav c c x (Failed BadState)) (sym is)
-      (called-none s wav c (op.Play k) (Failed BadState) ready tt (record { there = refl; result = refl }) refl)
-  called-refused s wav c asked ready (inr (inl is)) = subst (λ (x : Op). HasClientCalled P G s s wav c c x (Failed BadState)) (sym is)
-      (called-none s wav c op.Unplug (Failed BadState) ready tt (record { there = refl; result = refl }) refl)
-  called-refused s wav c asked ready (inr (inr (inl (k, is)))) = subst (λ (x : Op). HasClientCalled P G s s wav c c x (Failed BadState)) (sym is)
-      (called-none s wav c (op.Read k) (Failed BadState) ready tt (record { there = refl; result = refl }) refl)
-  called-refused s wav c asked ready (inr (inr (inr (inl (k, is))))) = subst (λ (x : Op). HasClientCalled P G s s wav c c x (Failed BadState)) (sym is)
-      (called-none s wav c (op.Die k) (Failed BadState) ready tt (record { there = refl; result = refl }) refl)
-  called-refused s wav c asked ready (inr (inr (inr (inr (inl is))))) = subst (λ (x : Op). HasClientCalled P G s s wav c c x (Failed BadState)) (sym is)
-      (called-none s wav c op.Opens (Failed BadState) ready tt (record { there = refl; result = refl }) refl)
-  called-refused s wav c asked ready (inr (inr (inr (inr (inr is))))) = subst (λ (x : Op). HasClientCalled P G s s wav c c x (Failed BadState)) (sym is)
-      (called-none s wav c op.Closes (Failed BadState) ready tt (record { there = refl; result = refl }) refl)
+    -- a line that isn't a client's, and a `die`, which makes no call
+    pub called-refused : (s : S × T) (wav : Sound) (c : ClientView) (asked : Op) → IsReady P wav s.0 c
+        → ((k : ℕ) × (asked ≡ op.Play k)) ⊎ ((asked ≡ op.Unplug) ⊎ (((k : ℕ) × (asked ≡ op.Read k)) ⊎ (((k : ℕ) × (asked ≡ op.Die k)) ⊎ ((asked ≡ op.Opens) ⊎ (asked ≡ op.Closes)))))
+        → HasClientCalled P G s s wav c c asked (Failed BadState)
+    called-refused s wav c asked ready is = grind (arith, nat_tests)

@@ -1,23 +1,22 @@
 -- The clients at the beginning of a run, and at its end.
-use Rattle.lab_clients.specs.Prelude.{ap, arith, inl, inr, length, List, map, refl, subst, sym, take, ℕ, [], ◌++◌, ◌+◌, ◌∙◌, ◌∷◌, ◌≡◌, ◌≤◌, cases_eq, cases_lt}
+use Rattle.lab_clients.specs.Prelude.{ap, arith, inl, inr, length, List, map, refl, subst, sym, zero-add, ℕ, [], ◌++◌, ◌+◌, ◌∙◌, ◌∷◌, ◌≡◌, ◌≤◌, cases_lt}
 use Rattle.lab_clients.specs.Prelude.{false≢true, nat_tests, ints, append-nil, get_or-map, length-map, length-set, none-some, same_Some, AllByRecursion}
 use Rattle.lab_clients.specs.Prelude.{flat_map, false, is_none, is_some, None, Option, option_map, pos, replicate, slice_index_or, slice_set, Some, suc, true}
 use Rattle.lab_clients.specs.Prelude.{zero, ℤ, ◌<◌, Geometry, Entry, total-append, standing, total, high_frame, MixSeat, key_of, places_of_seat, TableId}
 use Rattle.lab_clients.specs.Prelude.{view_of, free_seats, laid_by, laid_by_all, AreFree, seat_at, PlaybackStream, Share, Client, present_of, segments_of, Held}
-use Rattle.lab_clients.specs.Prelude.{held_of, held_without, AtPort, ended_client, first_stage, new_port, no_client, Session, Setup, AreAtPlaces, HoldsNone}
-use Rattle.lab_clients.specs.Prelude.{IsHeldBy, key_of_places, lobby_of, new_held, ring_of_places, share_of, shares_of, AreHeld-new, Holding, Holdings}
-use Rattle.lab_clients.specs.Prelude.{IsUnlaid, laid_list, laid_lists, AreEach, LabClient, LabClients, OpenClient, AreAt, clients_of, holding_by, IsClientAt}
-use Rattle.lab_clients.specs.Prelude.{IsNewCardOf, IsSetUp, places_of, AreNewClients, HasEnded, IsNewClient, IsPlacedAll, segments_by, all_segments-set}
-use Rattle.lab_clients.specs.Prelude.{client_by, client_in, ended_of, IsAt, number_of, open_of, IsAt-closed, AreOfRun, client_among, clients_but, held_but}
+use Rattle.lab_clients.specs.Prelude.{held_of, held_without, AtPort, ended_client, first_stage, no_client, Session, Setup, AreAtPlaces, HoldsNone, IsHeldBy}
+use Rattle.lab_clients.specs.Prelude.{key_of_places, lobby_of, new_held, ring_of_places, share_of, shares_of, AreHeld-new, Holding, Holdings, IsUnlaid}
+use Rattle.lab_clients.specs.Prelude.{laid_list, laid_lists, AreEach, AreEach-at, AreEach-length, LabClient, LabClients, OpenClient, AreAt, clients_of}
+use Rattle.lab_clients.specs.Prelude.{holding_by, IsClientAt, IsNewCardOf, places_of, AreNewClients, HasEnded, IsNewClient, IsPlacedAll, segments_by}
+use Rattle.lab_clients.specs.Prelude.{all_segments-set, client_by, client_in, ended_of, number_of, open_of, AreOfRun, client_among, clients_but, held_but}
 use Rattle.lab_clients.specs.Prelude.{IsClosedAt, open_at, client_segments, IsClientPlaced, IsPlacedBy, IsPlacedFor, IsReported, laid_for, open_lists}
 use Rattle.lab_clients.specs.Prelude.{place_segments, SeatSegment, worth_all, worth_left, worth_of, worth_all-new, worth_at, worth_of-append, worth_of-worth_at}
-use Rattle.lab_clients.specs.Prelude.{sound_at}
 use Rattle.std.proofs.lemmas.List.Elements.{All-from_recursion}
 use Rattle.sum_table.specs.declared.view.Key.{Key}
 use Rattle.lab_lines.specs.Script.{first_frame}
 use Rattle.lab_run.specs.LabRun.{all_segments, entries_of, with_numbers}
 use Rattle.lab_run.specs.Places.{Place, is_free, is_held_by, left_place}
-use Rattle.lab_clients.proofs.OpenAt.{open_at-past}
+use Rattle.lab_clients.proofs.OpenAt.{open_at-index, open_at-past}
 use Rattle.snd_base.specs.Places as rings
 
 -- ---- the beginning
@@ -30,11 +29,15 @@ AreNewClients-more number (first ∷ ds) d are new =
 
 -- a client without a stream isn't open
 none-open : (d : LabClient) → (client_in d).own ≡ None → open_of d ≡ None
-none-open d is = by_open (open_of d) is
-  where
-    by_open : (o : Option OpenClient) → (client_by (ended_of d) o).own ≡ None → o ≡ None
-    by_open None is = refl
-    by_open (Some o) is = absurd (cc)
+none-open d is = grind (arith, nat_tests)
+
+-- what is so of each client that was never open, beside a client of a run that was never open
+AreEach-new : (R : ℕ → LabClient → AtPort × Client → Type 0) (x : AtPort × Client) → ((number : ℕ) (d : LabClient) → IsNewClient number d → R number d x) → (number : ℕ) (ds : List LabClient)
+    (setups : List (Option Setup)) → length setups ≡ length ds → AreNewClients number ds → AreEach R number ds (map (λ setup. x) setups)
+AreEach-new R x each number [] [] len are = tt
+AreEach-new R x each number [] (setup ∷ setups) len are = absurd (omega (arith, len))
+AreEach-new R x each number (d ∷ ds) [] len are = absurd (omega (arith, len))
+AreEach-new R x each number (d ∷ ds) (setup ∷ setups) len are = (each number d are.0, AreEach-new R x each (number + 1) ds setups (omega (arith, len)) are.1)
 
 -- nobody holds anything
 abbrev no_holdings : ℕ → Option Holding
@@ -43,28 +46,7 @@ no_holdings n = None
 module _ (session : Session) (ring : TableId) (key : Key) (ring_is : key.geometry ≡ session.ring) where
   -- it is a client of a run that was never open
   IsClientAt-new : (number : ℕ) (d : LabClient) → IsNewClient number d → IsClientAt session ring key no_holdings number d (no_client session.ring)
-  IsClientAt-new number d new =
-      let closed = none-open d (ap (λ (c : Client). c.own) new.client) in
-      record {
-        is = record {
-          numbered = new.numbered;
-          client = new.client;
-          last = None;
-          at = subst (λ (g : Geometry). IsAt ring key (sound_at session.sounds number) None d (new_port g 0 0)) ring_is
-              (IsAt-closed ring key (sound_at session.sounds number) None d 0 0 closed);
-          holds = ap (holding_by None) (sym closed);
-          setup = subst (IsSetUp (slice_index_or session.clients number None)) (sym closed) tt;
-        };
-        goes = refl;
-        rows = new.rows;
-      }
-
-  AreEach-new : (number : ℕ) (ds : List LabClient) (setups : List (Option Setup)) → length setups ≡ length ds → AreNewClients number ds
-      → AreEach (IsClientAt session ring key no_holdings) number ds (map (λ setup. no_client session.ring) setups)
-  AreEach-new number [] [] len are = tt
-  AreEach-new number [] (setup ∷ setups) len are = absurd (omega (arith, len))
-  AreEach-new number (d ∷ ds) [] len are = absurd (omega (arith, len))
-  AreEach-new number (d ∷ ds) (setup ∷ setups) len are = (IsClientAt-new number d are.0, AreEach-new (number + 1) ds setups (omega (arith, len)) are.1)
+  IsClientAt-new number d new = grind (arith, nat_tests)
 
 -- nothing was placed for clients that were never open, and they have no segments
 open_lists-new : (worth : Entry → ℤ) (number : ℕ) (ds : List LabClient) → AreNewClients number ds → worth_all worth (open_lists ds) ≡ pos 0
@@ -74,16 +56,6 @@ open_lists-new worth number (d ∷ ds) are =
     ap (λ (o : Option OpenClient). worth_left worth (laid_for o)) (none-open d (ap (λ (c : Client). c.own) are.0.client)) in
     let more = open_lists-new worth (number + 1) ds are.1 in
     omega (arith, ints, closed, more)
-
-IsClientPlaced-new : (session : Session) (ring : Geometry) (number : ℕ) (ds : List LabClient) (setups : List (Option Setup)) → length setups ≡ length ds → AreNewClients number ds
-    → AreEach (IsClientPlaced session []) number ds (map (λ setup. no_client ring) setups)
-IsClientPlaced-new session ring number [] [] len are = tt
-IsClientPlaced-new session ring number [] (setup ∷ setups) len are = absurd (omega (arith, len))
-IsClientPlaced-new session ring number (d ∷ ds) [] len are = absurd (omega (arith, len))
-IsClientPlaced-new session ring number (d ∷ ds) (setup ∷ setups) len are = (
-  subst (λ (o : Option OpenClient). IsPlacedFor session [] number o (no_client ring).1) (sym (none-open d (ap (λ (c : Client). c.own) are.0.client))) refl,
-  IsClientPlaced-new session ring (number + 1) ds setups (omega (arith, len)) are.1,
-)
 
 numbered-none : (ring : Geometry) (number : ℕ) (setups : List (Option Setup))
     → with_numbers (λ (client : AtPort × Client). segments_of client.1) number (map (λ setup. no_client ring) setups) ≡ []
@@ -99,10 +71,12 @@ none-placed (suc places) (suc place) laid is = none-placed places place laid is
 IsReported-new : (session : Session) (seats : List (Option MixSeat)) (ds : List LabClient) → IsUnlaid seats → length session.clients ≡ length ds → AreNewClients 0 ds
     → IsReported session (laid_lists seats) ds (map (λ setup. no_client session.ring) session.clients)
 IsReported-new session seats ds unlaid len new =
-    subst (λ lists. IsReported session lists ds (map (λ setup. no_client session.ring) session.clients)) (sym unlaid) (record {
+    rw unlaid (record {
       history = [];
       free = λ place laid is. subst (λ (es : List Entry). IsPlacedBy session es []) (none-placed (length seats) place laid is) (record { entries = refl; totals = λ f k. refl });
-      clients = IsClientPlaced-new session session.ring 0 ds session.clients len new;
+      clients = AreEach-new (IsClientPlaced session []) (no_client session.ring)
+          (λ number d one. subst (λ (o : Option OpenClient). IsPlacedFor session [] number o (no_client session.ring).1) (sym (none-open d (ap (λ (c : Client). c.own) one.client))) refl)
+          0 ds session.clients len new;
       as_often = λ worth.
           let free = worth_all-new worth (length seats) in
           let open_ones = open_lists-new worth 0 ds new in
@@ -132,7 +106,8 @@ AreAt-new session seat sharing count cs card setups held_by key_is share_is chan
       held_by = subst (IsHeldBy (places_of cs)) held_is held_by;
       are_held = AreHeld-new (share_of (places_of cs)) session.card.places (first_frame session.card) no_holdings (λ n. refl);
       no_others = λ n past. refl;
-      each = AreEach-new session (ring_of_places (places_of cs)) (key_of_places (places_of cs)) ring_is 0 (clients_of cs) session.clients (setups ∙ sym len) new;
+      each = AreEach-new (IsClientAt session (ring_of_places (places_of cs)) (key_of_places (places_of cs)) no_holdings) (no_client session.ring)
+          (IsClientAt-new session (ring_of_places (places_of cs)) (key_of_places (places_of cs)) ring_is) 0 (clients_of cs) session.clients (setups ∙ sym len) new;
       reported = IsReported-new session (free_seats (lobby_of (places_of cs))) (clients_of cs) unlaid (setups ∙ sym len) new;
     }
 
@@ -141,13 +116,6 @@ AreAt-new session seat sharing count cs card setups held_by key_is share_is chan
 -- how many they are
 pub length-segments_by : (d : LabClient) → length (segments_by d) ≡ length (segments_of (client_in d))
 length-segments_by d = length-map (segments_of (client_in d)) (λ segment. (number_of d, segment))
-
--- all items of a list
-pub take-past : (ds : List LabClient) (n : ℕ) → length ds ≤ n → take n ds ≡ ds
-take-past [] zero past = refl
-take-past [] (suc n) past = refl
-take-past (d ∷ ds) zero past = absurd (omega (arith, past))
-take-past (d ∷ ds) (suc n) past = ap (λ more. d ∷ more) (take-past ds n (omega (arith, past)))
 
 -- ---- clients are closed
 
@@ -198,17 +166,11 @@ AreOfRun-ended cs ds run has = record { session = run.session; held = has.then_h
 -- the clients below a number are closed, after one more is, or isn't open
 pub AllClosed-more : (cs ds : LabClients) (number : ℕ) → IsClosedAt number (clients_of cs) (clients_of ds) → ((n : ℕ) → n < number → open_at (clients_of cs) n ≡ None)
     → (n : ℕ) → n < number + 1 → open_at (clients_of ds) n ≡ None
-AllClosed-more cs ds number closed below n within = elim (cases_eq n number) [
-  | inl here ↦ ap (open_at (clients_of ds)) here ∙ closed.own
-  | inr other ↦ closed.others n other ∙ below n (omega (arith, within, other))
-]
+AllClosed-more cs ds number closed below n within = grind (arith, nat_tests)
 
 pub AllClosed-still : (cs : LabClients) (number : ℕ) → open_at (clients_of cs) number ≡ None → ((n : ℕ) → n < number → open_at (clients_of cs) n ≡ None)
     → (n : ℕ) → n < number + 1 → open_at (clients_of cs) n ≡ None
-AllClosed-still cs number here below n within = elim (cases_eq n number) [
-  | inl same ↦ ap (open_at (clients_of cs)) same ∙ here
-  | inr other ↦ below n (omega (arith, within, other))
-]
+AllClosed-still cs number here below n within = grind (arith, nat_tests)
 
 pub AllClosed-past : (cs : LabClients) (number : ℕ) → length (clients_of cs) ≤ number → ((n : ℕ) → n < number → open_at (clients_of cs) n ≡ None) → (n : ℕ) → open_at (clients_of cs) n ≡ None
 AllClosed-past cs number all below n = elim (cases_lt n number) [
@@ -222,19 +184,16 @@ AllClosed-past cs number all below n = elim (cases_lt n number) [
 none-held : (session : Session) (held : Held) (xs : List (AtPort × Client)) (cs : LabClients) (are : AreAt session held xs cs) → ((n : ℕ) → open_at (clients_of cs) n ≡ None)
     → (n : ℕ) → are.holdings n ≡ None
 none-held session held xs cs are closed n = elim (cases_lt n (length (clients_of cs))) [
-  | inl inside ↦ subst (λ k. are.holdings k ≡ None) (omega arith) (by_item 0 (clients_of cs) xs n are.each inside (closed n))
+  | inl inside ↦ by_list (clients_of cs) are.each closed inside
   | inr past ↦ are.no_others n (omega (arith, past))
 ]
   where
-    by_item : (m : ℕ) (ds : List LabClient) (ys : List (AtPort × Client)) (i : ℕ)
-        → AreEach (IsClientAt session (ring_of_places (places_of cs)) (key_of_places (places_of cs)) are.holdings) m ds ys → i < length ds → open_at ds i ≡ None
-        → are.holdings (m + i) ≡ None
-    by_item m [] ys i each inside none = absurd (omega (arith, inside))
-    by_item m (d ∷ ds) [] i each inside none = absurd each
-    by_item m (d ∷ ds) (y ∷ ys) zero each inside none =
-        subst (λ k. are.holdings k ≡ None) (omega arith) (each.0.is.holds ∙ ap (holding_by each.0.is.last) none)
-    by_item m (d ∷ ds) (y ∷ ys) (suc i) each inside none =
-        subst (λ k. are.holdings k ≡ None) (omega arith) (by_item (m + 1) ds ys i each.1 (omega (arith, inside)) none)
+    by_list : (ds : List LabClient) → AreEach (IsClientAt session (ring_of_places (places_of cs)) (key_of_places (places_of cs)) are.holdings) 0 ds xs → ((i : ℕ) → open_at ds i ≡ None) → n < length ds
+        → are.holdings n ≡ None
+    by_list [] each closed inside = absurd (omega (arith, inside))
+    by_list (d ∷ ds) each closed inside =
+        let one = AreEach-at (IsClientAt session (ring_of_places (places_of cs)) (key_of_places (places_of cs)) are.holdings) 0 (d ∷ ds) xs each n d (no_client session.ring) inside in
+        ap are.holdings (sym (zero-add n)) ∙ one.is.holds ∙ ap (holding_by one.is.last) (sym (open_at-index (d ∷ ds) n d inside) ∙ closed n)
 
 -- each place is free where nobody holds one
 free-place : (place : Place) → ((n : ℕ) → is_held_by n place.holder ≡ false) → is_free place ≡ true
@@ -298,19 +257,19 @@ open_lists-closed worth (d ∷ ds) closed =
     omega (arith, ints, here, more)
 
 -- the segments of a client that isn't open
-client_segments-closed : (session : Session) (ring : TableId) (key : Key) (holdings : Holdings) (history : List SeatSegment) (number : ℕ) (ds : List LabClient) (ys : List (AtPort × Client))
-    (i : ℕ) (y : AtPort × Client) → AreEach (IsClientAt session ring key holdings) number ds ys → AreEach (IsClientPlaced session history) number ds ys → ((n : ℕ) → open_at ds n ≡ None)
-    → i < length ys → segments_of (slice_index_or ys i y).1 ≡ client_segments (number + i) history
-client_segments-closed session ring key holdings history number ds [] i y are placed closed inside = absurd (omega (arith, inside))
-client_segments-closed session ring key holdings history number [] (x ∷ ys) i y are placed closed inside = absurd are
-client_segments-closed session ring key holdings history number (d ∷ ds) (x ∷ ys) zero y are placed closed inside =
-    let own : x.1.own ≡ None = ap (λ (c : Client). c.own) (sym are.0.is.client) ∙ ap (λ (o : Option OpenClient). (client_by (ended_of d) o).own) (closed 0) in
-    let ended : x.1.ended ≡ client_segments number history = subst (λ (o : Option OpenClient). IsPlacedFor session history number o x.1) (closed 0) placed.0 in
-    ap (λ (stream : Option PlaybackStream). x.1.ended ++ present_of stream) own
-    ∙ (append-nil x.1.ended ∙ (ended ∙ ap (λ n. client_segments n history) (omega arith)))
-client_segments-closed session ring key holdings history number (d ∷ ds) (x ∷ ys) (suc i) y are placed closed inside =
-    client_segments-closed session ring key holdings history (number + 1) ds ys i y are.1 placed.1 (λ n. closed (suc n)) (omega (arith, inside))
-    ∙ ap (λ n. client_segments n history) (omega arith)
+client_segments-closed : (session : Session) (ring : TableId) (key : Key) (holdings : Holdings) (history : List SeatSegment) (ds : List LabClient) (ys : List (AtPort × Client)) (i : ℕ)
+    (y : AtPort × Client) → AreEach (IsClientAt session ring key holdings) 0 ds ys → AreEach (IsClientPlaced session history) 0 ds ys → ((n : ℕ) → open_at ds n ≡ None) → i < length ds
+    → segments_of (slice_index_or ys i y).1 ≡ client_segments i history
+client_segments-closed session ring key holdings history [] ys i y are placed closed inside = absurd (omega (arith, inside))
+client_segments-closed session ring key holdings history (d ∷ ds) ys i y are placed closed inside =
+    let x = slice_index_or ys i y in
+    let e = slice_index_or (d ∷ ds) i d in
+    let none : open_of e ≡ None = sym (open_at-index (d ∷ ds) i d inside) ∙ closed i in
+    let one = AreEach-at (IsClientAt session ring key holdings) 0 (d ∷ ds) ys are i d y inside in
+    let own : x.1.own ≡ None = ap (λ (c : Client). c.own) (sym one.is.client) ∙ ap (λ (o : Option OpenClient). (client_by (ended_of e) o).own) none in
+    let ended : x.1.ended ≡ client_segments (0 + i) history =
+    subst (λ (o : Option OpenClient). IsPlacedFor session history (0 + i) o x.1) none (AreEach-at (IsClientPlaced session history) 0 (d ∷ ds) ys placed i d y inside) in
+    ap (λ (stream : Option PlaybackStream). x.1.ended ++ present_of stream) own ∙ append-nil x.1.ended ∙ ended ∙ ap (λ n. client_segments n history) (zero-add i)
 
 -- the clients are closed, and the seats of all places were joined
 module _ (session : Session) (held : Held) (xs : List (AtPort × Client)) (cs : LabClients) (seat : MixSeat) (has : HasEnded session held xs cs)
@@ -347,9 +306,10 @@ module _ (session : Session) (held : Held) (xs : List (AtPort × Client)) (cs : 
         placed-at place within (seat_at seats place) refl (AreFree-closed session has.then_held has.ys cs has.are closed place None within);
     clients = λ number x inside.
         sym (has.each number x)
-        ∙ (client_segments-closed session (ring_of_places (places_of cs)) (key_of_places (places_of cs)) has.are.holdings reported.history 0 (clients_of cs) has.ys number x has.are.each
-        reported.clients closed (let count = has.count in omega (arith, inside, count))
-        ∙ ap (λ n. client_segments n reported.history) (let first : 0 + number ≡ number = omega arith in first));
+        ∙ client_segments-closed session (ring_of_places (places_of cs)) (key_of_places (places_of cs)) has.are.holdings reported.history (clients_of cs) has.ys number x has.are.each
+        reported.clients closed
+        (let count = has.count in
+        let len = AreEach-length (IsClientPlaced session reported.history) 0 (clients_of cs) has.ys reported.clients in omega (arith, inside, count, len));
     as_often = λ worth. worth_of-lists worth seats ∙ left-ended worth;
     totals = λ f k.
         ap (λ (es : List Entry). total es f k) laid

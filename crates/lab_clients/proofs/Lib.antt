@@ -7,12 +7,10 @@ mod Lent
 mod Offering
 mod OpenAt
 mod OpeningLaws
-mod Params
 mod PartLaws
 mod ReapLaws
 mod ReportedLaws
 mod Results
 mod RunLemmas
-mod SegmentAdds
 mod SegmentParts
 mod StretchLaws

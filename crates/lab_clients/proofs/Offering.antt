@@ -1,7 +1,6 @@
 -- What a write offers of a client's file.
-use Rattle.lab_clients.specs.Prelude.{ap, arith, drop, get_or, length, List, subst, sym, take, ℕ, ◌%◌, ◌*◌, ◌+◌, ◌∙◌, ◌≡◌, ◌≤◌, nat_tests, get_or-drop}
-use Rattle.lab_clients.specs.Prelude.{get_or-take, length-drop, length-take, min, pos, ℤ, ◌-◌, ◌/◌, ◌<◌, ◌^◌, PlaybackStream, Follows, frames_in, IsOffer}
-use Rattle.lab_clients.specs.Prelude.{Sound, frames_of}
+use Rattle.lab_clients.specs.Prelude.{ap, arith, drop, get_or, length, List, subst, take, ℕ, ◌%◌, ◌*◌, ◌+◌, ◌∙◌, ◌≡◌, ◌≤◌, nat_tests, get_or-drop, get_or-take}
+use Rattle.lab_clients.specs.Prelude.{length-drop, length-take, min, pos, ℤ, ◌-◌, ◌/◌, ◌<◌, ◌^◌, PlaybackStream, Follows, frames_in, IsOffer, Sound, frames_of}
 use Rattle.std.proofs.Math.Nat.{div-mul-le_self, mul-div_cancel, mul-le-mul_right, mul-mod_left}
 
 -- a write offers the next frames of a client's file
@@ -65,6 +64,4 @@ Offers-IsOffer wav c frames some channels fed room few =
 
 -- what is offered follows, in the file, what was accepted
 pub Offers-Follows : (wav : Sound) (c : PlaybackStream) (offer : List ℤ) (n : ℕ) → c.stretch.written + c.stretch.source ≡ c.fed → Offers wav c offer n → Follows c wav.samples offer n
-Offers-Follows wav c offer n fed offers k q within in_range =
-    ap (λ (j : ℕ). get_or wav.samples (j * length c.setup.bindings + q) (pos 0)) (let same : c.stretch.source + (c.stretch.written + k) ≡ c.fed + k = omega (arith, fed) in same)
-    ∙ sym (offers.each k q within in_range)
+Offers-Follows wav c offer n fed offers k q within in_range = grind (arith, nat_tests)

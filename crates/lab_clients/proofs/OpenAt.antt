@@ -1,6 +1,6 @@
 -- The open client of a number, in a list of clients.
-use Rattle.lab_clients.specs.Prelude.{ap, arith, IsSome, length, List, refl, subst, sym, ℕ, [], ◌∙◌, ◌∷◌, ◌≡◌, ◌≤◌, length-set, false, is_some, None, Option}
-use Rattle.lab_clients.specs.Prelude.{slice_index_or, slice_set, Some, suc, true, zero, ◌<◌, ◌≢◌, LabClient, OpenClient, is_open, open_of, IsClosedAt, open_at}
+use Rattle.lab_clients.specs.Prelude.{ap, arith, IsSome, length, List, refl, subst, sym, ℕ, [], ◌∙◌, ◌∷◌, ◌≡◌, ◌≤◌, nat_tests, length-set, false, None, Option}
+use Rattle.lab_clients.specs.Prelude.{slice_index_or, slice_set, suc, true, zero, ◌<◌, ◌≢◌, LabClient, OpenClient, is_open, open_of, IsClosedAt, open_at}
 
 -- the open client of a number is that in the list
 pub open_at-index : (ds : List LabClient) (n : ℕ) (d : LabClient) → n < length ds → open_at ds n ≡ open_of (slice_index_or ds n d)
@@ -31,18 +31,10 @@ open_at-read ds n d inside is = open_at-index ds n d inside ∙ ap open_of (sym 
 
 -- whether it is open
 pub open_of-none : (d : LabClient) → is_open d ≡ false → open_of d ≡ None
-open_of-none d is = by_open (open_of d) is
-  where
-    by_open : (o : Option OpenClient) → is_some o ≡ false → o ≡ None
-    by_open None is = refl
-    by_open (Some o) is = absurd (cc)
+open_of-none d is = grind (arith, nat_tests)
 
 pub open_of-some : (d : LabClient) → is_open d ≡ true → IsSome (open_of d)
-open_of-some d is = by_open (open_of d) is
-  where
-    by_open : (o : Option OpenClient) → is_some o ≡ true → IsSome o
-    by_open None is = absurd (cc)
-    by_open (Some o) is = refl
+open_of-some d is = grind (arith, nat_tests)
 
 -- a client exchanged for one that isn't open
 pub IsClosedAt-set : (ds : List LabClient) (n : ℕ) (e : LabClient) → n < length ds → open_of e ≡ None → IsClosedAt n ds (slice_set ds n e)

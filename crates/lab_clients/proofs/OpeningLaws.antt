@@ -1,17 +1,17 @@
 -- An opening of a client makes of the clients of the lab what it makes of those of a run.
-use Rattle.lab_clients.specs.Prelude.{ap, arith, length, List, refl, subst, sym, ℕ, [], ◌++◌, ◌∙◌, ◌≡◌, false≢true, ints, Err, is_some, IsSomeAnd, None, Ok}
-use Rattle.lab_clients.specs.Prelude.{Option, pos, Result, slice_index_or, slice_set, Some, true, ◌<◌, PcmError, BadState, Invalid, Geometry, standing, MixSeat}
-use Rattle.lab_clients.specs.Prelude.{member_of, TableId, free_seats, last_of, PlaybackStream, Answer, Done, Failed, Row, Share, Client, present_of, row_by}
-use Rattle.lab_clients.specs.Prelude.{segments_of, stretch_of, Held, held_of, AtPort, after_open, client_at, new_port, no_client, open_client, open_client_with}
-use Rattle.lab_clients.specs.Prelude.{opened_client, renewed_port, Session, Setup, Stage, with_row, IsGiven, IsSameCard, key_of_places, lobby_of, Opens}
-use Rattle.lab_clients.specs.Prelude.{ring_of_places, share_of, AreHeld, AreHeld-opened, AreHeld-refused, Holding, Holdings, laid_list, laid_lists, AreEach-at}
-use Rattle.lab_clients.specs.Prelude.{LabClient, LabClients, OpenClient, AreAfter, AreAt, clients_of, holding_by, IsClientAt, IsSetUp, places_of}
-use Rattle.lab_clients.specs.Prelude.{AreIn-exchanged, AreIn-places, ChangesAt-with_holding, IsAsOften, IsAsOften-exchanged, IsClientAt-holding, IsLaidAlike}
-use Rattle.lab_clients.specs.Prelude.{IsLaidWith, MovesLaid, with_holding, worth_all-with, client_by, client_in, ended_of, is_open, IsAt, number_of, open_of}
-use Rattle.lab_clients.specs.Prelude.{rows_by, HasOpened, IsNewlyOpen, client-opened, IsAt-opened, new_client, AreAtStage, AreBeforeOpening, client_among}
-use Rattle.lab_clients.specs.Prelude.{IsReported, laid_for, worth_left, worth_of, sound_at}
+use Rattle.lab_clients.specs.Prelude.{ap, arith, length, List, refl, subst, sym, zero-add, ℕ, [], ◌++◌, ◌∙◌, ◌∷◌, ◌≡◌, false≢true, nat_tests, ints, Err}
+use Rattle.lab_clients.specs.Prelude.{is_some, IsSomeAnd, None, Ok, Option, pos, Result, slice_index_or, slice_set, Some, true, ◌<◌, PcmError, BadState}
+use Rattle.lab_clients.specs.Prelude.{Invalid, Geometry, standing, MixSeat, member_of, TableId, free_seats, last_of, PlaybackStream, Op, Answer, Done, Failed}
+use Rattle.lab_clients.specs.Prelude.{Share, Client, present_of, row_by, segments_of, stretch_of, Held, held_of, AtPort, after_open, client_at, new_port}
+use Rattle.lab_clients.specs.Prelude.{no_client, open_client, open_client_with, opened_client, renewed_port, Session, Setup, Stage, with_row, IsGiven}
+use Rattle.lab_clients.specs.Prelude.{IsSameCard, key_of_places, lobby_of, Opens, ring_of_places, share_of, AreHeld, AreHeld-opened, AreHeld-refused, Holding}
+use Rattle.lab_clients.specs.Prelude.{Holdings, laid_list, laid_lists, AreEach-at, LabClient, LabClients, OpenClient, AreAfter, AreAt, AreIn, clients_of}
+use Rattle.lab_clients.specs.Prelude.{holding_by, IsClientAt, places_of, AreIn-exchanged, AreIn-places, ChangesAt-with_holding, IsAsOften, IsAsOften-exchanged}
+use Rattle.lab_clients.specs.Prelude.{IsClientAt-holding, IsClientAt-in_run, IsInRun, IsLaidAlike, IsLaidWith, MovesLaid, Relation, with_holding}
+use Rattle.lab_clients.specs.Prelude.{worth_all-with, client_by, client_in, ended_of, is_open, IsAt, number_of, open_of, HasOpened, IsNewlyOpen, client-opened}
+use Rattle.lab_clients.specs.Prelude.{IsAt-opened, new_client, AreAtStage, AreBeforeOpening, client_among, IsReported, laid_for, worth_left, worth_of, sound_at}
 use Rattle.sum_table.specs.declared.view.Key.{Key}
-use Rattle.lab_places.specs.StageLaws.{came_of, open_client_with-done, open_client_with-refused, with_held, with_opened}
+use Rattle.lab_places.specs.StageLaws.{came_of, open_client_with-done, open_client_with-refused, with_held}
 use Rattle.lab_clients.proofs.ReportedLaws.{IsPlacedFor-at, IsReported-opened}
 use Rattle.snd_base.specs.declared.errors.Why.TheVariants as why
 use Rattle.lab_lines.specs.declared.line.Actor.TheVariants as actor
@@ -19,66 +19,46 @@ use Rattle.lab_lines.specs.declared.line.Op.TheVariants as op
 
 -- ---- the client of a number
 
--- a row more changes nothing that is held
-pub AreAfter-row : (session : Session) (stage : Stage) (row : Row) (cs : LabClients) → AreAt session (held_of stage) stage.clients cs → AreAfter session stage (with_row row stage) row cs
-AreAfter-row session stage row cs are = record { are = are; rows = refl }
+-- is that of the run, whatever else is so of it
+module _ (Is : Relation (AtPort × Client)) (session : Session) (held : Held) (xs : List (AtPort × Client)) (cs : LabClients) (number : ℕ) (d : LabClient) (are : AreIn Is session held xs cs)
+    (inside : number < length (clients_of cs)) (is : d ≡ slice_index_or (clients_of cs) number d) where
+  pub client-number : Is session (ring_of_places (places_of cs)) (key_of_places (places_of cs)) are.holdings number d (client_among session xs number)
+  client-number =
+      let each : ℕ → LabClient → AtPort × Client → Type 0 = Is session (ring_of_places (places_of cs)) (key_of_places (places_of cs)) are.holdings in
+      subst (λ e. each number e (client_among session xs number)) (sym is)
+      (subst (λ n. each n (slice_index_or (clients_of cs) number d) (client_among session xs number)) (zero-add number) (AreEach-at each 0 (clients_of cs) xs are.each number d (no_client session.ring) inside))
 
--- an item of the body that only has a row
-pub AreAfter-still : (session : Session) (stage after : Stage) (row : Row) (cs : LabClients) → after ≡ with_row row stage → AreAt session (held_of stage) stage.clients cs
-    → AreAfter session stage after row cs
-AreAfter-still session stage after row cs is are = subst (λ s. AreAfter session stage s row cs) (sym is) (AreAfter-row session stage row cs are)
-
-module _ (session : Session) (held : Held) (xs : List (AtPort × Client)) (cs : LabClients) (number : ℕ) (d : LabClient) (are : AreAt session held xs cs) (inside : number < length (clients_of cs))
-    (is : d ≡ slice_index_or (clients_of cs) number d) where
-  -- is that of the run
-  pub IsClientAt-number : IsClientAt session (ring_of_places (places_of cs)) (key_of_places (places_of cs)) are.holdings number d (client_among session xs number)
-  IsClientAt-number =
-      subst (λ e. IsClientAt session (ring_of_places (places_of cs)) (key_of_places (places_of cs)) are.holdings number e (client_among session xs number)) (sym is)
-      (subst (λ n. IsClientAt session (ring_of_places (places_of cs)) (key_of_places (places_of cs)) are.holdings n (slice_index_or (clients_of cs) number d) (client_among session xs number))
-      (omega arith)
-      (AreEach-at (IsClientAt session (ring_of_places (places_of cs)) (key_of_places (places_of cs)) are.holdings) 0 (clients_of cs) xs are.each number d (no_client session.ring) inside))
-
-  pub own-number : (client_among session xs number).1.own ≡ (client_in d).own
-  own-number = ap (λ (client : Client). client.own) (sym IsClientAt-number.is.client)
-
--- ---- refusals that name no place
-
--- an opening of an open client
-open_client-open : (session : Session) (stage : Stage) (number : ℕ) (client : AtPort × Client) (own : Option PlaybackStream) → is_some own ≡ true
-    → open_client session stage number client own ≡ with_row (row_by stage.phases number op.Opens own (Failed BadState)) stage
-open_client-open session stage number client None is = absurd (false≢true is)
-open_client-open session stage number client (Some c) is = refl
+  pub own-number : IsInRun Is → (client_among session xs number).1.own ≡ (client_in d).own
+  own-number in_run = ap (λ (client : Client). client.own) (sym (in_run _ _ _ _ _ _ _ client-number).client)
 
 pub is_some-own : (d : LabClient) → is_open d ≡ true → is_some (client_in d).own ≡ true
-is_some-own d is = by_open (open_of d) is
-  where
-    by_open : (o : Option OpenClient) → is_some o ≡ true → is_some (client_by (ended_of d) o).own ≡ true
-    by_open None is = is
-    by_open (Some o) is = refl
+is_some-own d is = grind (arith, nat_tests)
 
 pub none-own : (d : LabClient) → open_of d ≡ None → (client_in d).own ≡ None
 none-own d is = ap (λ (o : Option OpenClient). (client_by (ended_of d) o).own) is
 
+-- ---- refusals that name no place
+
 module _ (session : Session) (stage : Stage) (phase number : ℕ) (cs : LabClients) (d : LabClient) (at : AreAtStage session stage phase cs) (inside : number < length (clients_of cs))
     (is : d ≡ slice_index_or (clients_of cs) number d) where
-  number-is : number_of d ≡ number
-  number-is = (IsClientAt-number session (held_of stage) stage.clients cs number d at.are inside is).is.numbered
+  pub number-is : number_of d ≡ number
+  number-is = (client-number IsClientAt session (held_of stage) stage.clients cs number d at.are inside is).is.numbered
 
-  own-is : (client_at session stage number).1.own ≡ (client_in d).own
-  own-is = own-number session (held_of stage) stage.clients cs number d at.are inside is
+  pub own-is : (client_at session stage number).1.own ≡ (client_in d).own
+  own-is = own-number IsClientAt session (held_of stage) stage.clients cs number d at.are inside is IsClientAt-in_run
 
-  row-is : (answer : Answer) → row_by stage.phases number op.Opens (client_in d).own answer ≡ row_by phase (number_of d) op.Opens (client_in d).own answer
-  row-is answer =
-      ap (λ n. row_by n number op.Opens (client_in d).own answer) (sym at.phase_is) ∙ ap (λ n. row_by phase n op.Opens (client_in d).own answer) (sym number-is)
+  -- the row of its opening or closing is that of the run
+  pub row-is : (asked : Op) (answer : Answer) → row_by stage.phases number asked (client_at session stage number).1.own answer ≡ row_by phase (number_of d) asked (client_in d).own answer
+  row-is asked answer = λ i. row_by ((sym at.phase_is) i) ((sym number-is) i) asked (own-is i) answer
 
   pub AreAfter-open_already : is_open d ≡ true
       → AreAfter session stage (after_open session stage (actor.Client number)) (row_by phase (number_of d) op.Opens (client_in d).own (Failed BadState)) cs
-  AreAfter-open_already opened =
-      AreAfter-still session stage (after_open session stage (actor.Client number)) (row_by phase (number_of d) op.Opens (client_in d).own (Failed BadState)) cs
-      (ap (open_client session stage number (client_at session stage number)) own-is
-      ∙ (open_client-open session stage number (client_at session stage number) (client_in d).own (is_some-own d opened)
-      ∙ ap (λ row. with_row row stage) (row-is (Failed BadState))))
-      at.are
+  AreAfter-open_already opened = rw (sym (row-is op.Opens (Failed BadState))) (by_own (client_at session stage number).1.own (ap is_some own-is ∙ is_some-own d opened))
+    where
+      by_own : (own : Option PlaybackStream) → is_some own ≡ true
+          → AreAfter session stage (open_client session stage number (client_at session stage number) own) (row_by stage.phases number op.Opens own (Failed BadState)) cs
+      by_own None is = absurd (false≢true is)
+      by_own (Some c) is = record { are = at.are; rows = refl }
 
   -- an opening that starts anew, by what there is to open the client with
   after_open-closed : open_of d ≡ None → (setup : Option Setup) → setup ≡ slice_index_or session.clients number None
@@ -90,14 +70,11 @@ module _ (session : Session) (stage : Stage) (phase number : ℕ) (cs : LabClien
   -- the row of a refused opening
   refused-row : (e : PcmError) → open_of d ≡ None
       → row_by stage.phases number op.Opens None (Failed e) ≡ row_by phase (number_of d) op.Opens (client_in d).own (Failed e)
-  refused-row e closed = ap (λ own. row_by stage.phases number op.Opens own (Failed e)) (sym (none-own d closed)) ∙ row-is (Failed e)
+  refused-row e closed = ap (λ own. row_by stage.phases number op.Opens own (Failed e)) (sym (own-is ∙ none-own d closed)) ∙ row-is op.Opens (Failed e)
 
   pub AreAfter-nothing : open_of d ≡ None → None ≡ slice_index_or session.clients number None
       → AreAfter session stage (after_open session stage (actor.Client number)) (row_by phase (number_of d) op.Opens (client_in d).own (Failed (Invalid why.Config))) cs
-  AreAfter-nothing closed nothing =
-      AreAfter-still session stage (after_open session stage (actor.Client number)) (row_by phase (number_of d) op.Opens (client_in d).own (Failed (Invalid why.Config))) cs
-      (after_open-closed closed None nothing ∙ ap (λ row. with_row row stage) (refused-row (Invalid why.Config) closed))
-      at.are
+  AreAfter-nothing closed nothing = rw (after_open-closed closed None nothing) (record { are = at.are; rows = ap (λ row. stage.rows ++ row ∷ []) (refused-row (Invalid why.Config) closed) })
 
 -- ---- an opening at the places
 
@@ -107,8 +84,7 @@ Opens-at : (session : Session) (stage : Stage) (number : ℕ) (setup : Setup) (p
     → Opens (share_of (places_of cs)) number setup.bindings position (held_of stage) r (places_of ds)
     → Opens session.card.share number setup.bindings stage.position (held_of stage) r (places_of ds)
 Opens-at session stage number setup position phase cs ds r before opens =
-    subst (λ sharing. Opens sharing number setup.bindings stage.position (held_of stage) r (places_of ds)) before.at.are.card.share
-    (subst (λ at. Opens (share_of (places_of cs)) number setup.bindings at (held_of stage) r (places_of ds)) before.position_is opens)
+    rw (before.position_is, before.at.are.card.share) at opens
 
 -- an opening that is refused: places that were claimed are free again
 module _ (session : Session) (stage : Stage) (number : ℕ) (setup : Setup) (position phase : ℕ) (cs ds : LabClients) (d : LabClient)
@@ -123,19 +99,16 @@ module _ (session : Session) (stage : Stage) (number : ℕ) (setup : Setup) (pos
   AreAfter-refused =
       let at = Opens-at session stage number setup position phase cs ds (Err e) before opens in
       let are = before.at.are in
-      let row = row_by phase (number_of d) op.Opens (client_in d).own (Failed e) in
-      let after : after_open session stage (actor.Client number) ≡ with_row row (with_held refused-held stage) =
+      let after : after_open session stage (actor.Client number) ≡ with_row (row_by stage.phases number op.Opens None (Failed e)) (with_held refused-held stage) =
       after_open-closed session stage phase number cs d before.at inside is closed (Some setup) before.setup_is
-      ∙ (open_client_with-refused session stage number setup (client_at session stage number) e at.answer
-      ∙ ap (λ r. with_row r (with_held refused-held stage)) (refused-row session stage phase number cs d before.at inside is e closed)) in
-      let held_by : AreHeld (share_of (places_of cs)) (held_of stage) are.holdings = are.are_held in
-      subst (λ s. AreAfter session stage s row ds) (sym after) (record {
+      ∙ open_client_with-refused session stage number setup (client_at session stage number) e at.answer in
+      rw after (record {
         are = AreIn-places IsClientAt session (held_of stage) refused-held stage.clients cs ds are same clients at.held_then
             (subst (λ sharing. AreHeld sharing refused-held are.holdings) (sym are.card.share)
             (AreHeld-refused session.card.share number setup.bindings stage.position (held_of stage) are.holdings e
-            (subst (λ sharing. AreHeld sharing (held_of stage) are.holdings) are.card.share held_by) at.answer))
+            (subst (λ sharing. AreHeld sharing (held_of stage) are.holdings) are.card.share are.are_held) at.answer))
             laid;
-        rows = refl;
+        rows = ap (λ row. stage.rows ++ row ∷ []) (refused-row session stage phase number cs d before.at inside is e closed);
       })
 
 -- an opening that is done: the client is at its place
@@ -155,7 +128,7 @@ module _ (session : Session) (stage : Stage) (number : ℕ) (setup : Setup) (pos
   opened-key = key_of_places (places_of cs)
 
   was : IsClientAt session opened-ring opened-key before.at.are.holdings number d (client_at session stage number)
-  was = IsClientAt-number session (held_of stage) stage.clients cs number d before.at.are inside is
+  was = client-number IsClientAt session (held_of stage) stage.clients cs number d before.at.are inside is
 
   abbrev opened-held : Held
   opened-held = (came_of session stage number setup).0
@@ -172,11 +145,7 @@ module _ (session : Session) (stage : Stage) (number : ℕ) (setup : Setup) (pos
   opened-as = (renewed_port session.ring (client_at session stage number).0, record (client_at session stage number).1 { own = Some (opened_client session.ring number setup) })
 
   client-is : client_in e ≡ opened-as.1
-  client-is =
-      client-opened (places_of cs) position seat setup d e given opened
-      ∙ (ap (λ (g : Geometry). new_client setup g (number_of d) (client_in d).ended) before.at.are.card.ring
-      ∙ (ap (λ n. new_client setup session.ring n (client_in d).ended) was.is.numbered
-      ∙ ap (λ (c : Client). new_client setup session.ring number c.ended) was.is.client))
+  client-is = client-opened (places_of cs) position seat setup d e given opened ∙ (λ i. new_client setup (before.at.are.card.ring i) (was.is.numbered i) (was.is.client i).ended)
 
   at-port : IsAt opened-ring opened-key (sound_at session.sounds number) (last_of seat) e opened-as.0
   at-port =
@@ -185,19 +154,13 @@ module _ (session : Session) (stage : Stage) (number : ℕ) (setup : Setup) (pos
       (IsAt-opened (places_of cs) position seat setup d e given opened (sound_at session.sounds number) (client_at session stage number).0.by_gate (client_at session stage number).0.at_gate
       (before.at.are.card.setups number setup (sym before.setup_is)).channels)
 
-  holds-it : (o : Option OpenClient) → IsSomeAnd o (IsNewlyOpen seat setup position d) → Some own-holding ≡ holding_by (last_of seat) o
-  holds-it None never = absurd never
-  holds-it (Some o) new =
-      ap (λ (s : MixSeat). Some (record { place = member_of s; before = last_of seat; channels = setup.bindings })) (sym new.seat_is)
-      ∙ ap (λ (channels : List ℕ). Some (record { place = member_of o.seat; before = last_of seat; channels = channels })) (sym new.bindings)
+  -- it is open then
+  by_own : (o : Option OpenClient) → open_of e ≡ o → IsSomeAnd o (IsNewlyOpen seat setup position d) → (p : OpenClient) × (open_of e ≡ Some p) × IsNewlyOpen seat setup position d p
+  by_own None open_is never = absurd never
+  by_own (Some p) open_is newly = (p, open_is, newly)
 
-  set-up : (o : Option OpenClient) → IsSomeAnd o (IsNewlyOpen seat setup position d) → IsSetUp (slice_index_or session.clients number None) o
-  set-up None never = absurd never
-  set-up (Some o) new = (setup, sym before.setup_is, ap (λ (c : PlaybackStream). c.setup.bindings) new.stream)
-
-  no-rows : (o : Option OpenClient) → IsSomeAnd o (IsNewlyOpen seat setup position d) → rows_by e.rows.items o ≡ []
-  no-rows None never = absurd never
-  no-rows (Some o) new = new.rows ∙ was.rows
+  own-open : (p : OpenClient) × (open_of e ≡ Some p) × IsNewlyOpen seat setup position d p
+  own-open = by_own (open_of e) refl opened.own
 
   own-client : IsClientAt session opened-ring opened-key opened-holdings number e opened-as
   own-client = record {
@@ -206,22 +169,18 @@ module _ (session : Session) (stage : Stage) (number : ℕ) (setup : Setup) (pos
       client = client-is;
       last = last_of seat;
       at = at-port;
-      holds = (ChangesAt-with_holding number (Some own-holding) before.at.are.holdings).own ∙ holds-it (open_of e) opened.own;
-      setup = set-up (open_of e) opened.own;
+      holds = (ChangesAt-with_holding number (Some own-holding) before.at.are.holdings).own ∙ sym (ap (holding_by (last_of seat)) own-open.1 ∙ (λ i. Some (record { place = member_of (own-open.2.seat_is i); before = last_of seat; channels = own-open.2.bindings i })));
+      setup = rw own-open.1 (setup, sym before.setup_is, ap (λ (c : PlaybackStream). c.setup.bindings) own-open.2.stream);
     };
     goes = refl;
-    rows = no-rows (open_of e) opened.own;
+    rows = rw own-open.1 (own-open.2.rows ∙ was.rows);
   }
-
-  laid-new : (o : Option OpenClient) → IsSomeAnd o (IsNewlyOpen seat setup position d) → laid_for o ≡ Some (laid_list seat)
-  laid-new None never = absurd never
-  laid-new (Some o) new = ap (λ (s : MixSeat). Some (laid_list s)) new.seat_is
 
   moves : MovesLaid (free_seats (lobby_of (places_of cs))) (slice_index_or (clients_of cs) number d) (free_seats (lobby_of (places_of ds))) e
   moves worth =
       let old : worth_left worth (laid_for (open_of (slice_index_or (clients_of cs) number d))) ≡ pos 0 =
       ap (λ (c : LabClient). worth_left worth (laid_for (open_of c))) (sym is) ∙ ap (λ (o : Option OpenClient). worth_left worth (laid_for o)) closed in
-      let new : worth_left worth (laid_for (open_of e)) ≡ worth_of worth (standing (laid_list seat)) = ap (worth_left worth) (laid-new (open_of e) opened.own) in
+      let new : worth_left worth (laid_for (open_of e)) ≡ worth_of worth (standing (laid_list seat)) = rw (own-open.1, own-open.2.seat_is) refl in
       let places = worth_all-with worth (free_seats (lobby_of (places_of ds))) seat (free_seats (lobby_of (places_of cs))) laid in
       omega (arith, ints, old, new, places)
 
@@ -236,12 +195,10 @@ module _ (session : Session) (stage : Stage) (number : ℕ) (setup : Setup) (pos
       inside segments-are moves before.at.are.reported.as_often
 
   -- what its seat placed before is what the segments say that were made through it
-  reported-by : (o : Option OpenClient) → open_of e ≡ o → IsSomeAnd o (IsNewlyOpen seat setup position d)
-      → IsReported session (laid_lists (free_seats (lobby_of (places_of ds)))) (slice_set (clients_of cs) number e) (slice_set stage.clients number opened-as)
-  reported-by None open_is never = absurd never
-  reported-by (Some o) open_is new =
-      IsReported-opened session (free_seats (lobby_of (places_of ds))) seat (free_seats (lobby_of (places_of cs))) laid (clients_of cs) number e o stage.clients opened-as
-      before.at.are.reported open_is new.seat_is (ap stretch_of new.stream)
+  reported-opened : IsReported session (laid_lists (free_seats (lobby_of (places_of ds)))) (slice_set (clients_of cs) number e) (slice_set stage.clients number opened-as)
+  reported-opened =
+      IsReported-opened session (free_seats (lobby_of (places_of ds))) seat (free_seats (lobby_of (places_of cs))) laid (clients_of cs) number e own-open.0 stage.clients opened-as
+      before.at.are.reported own-open.1 own-open.2.seat_is (ap stretch_of own-open.2.stream)
       (IsPlacedFor-at session before.at.are.reported.history (clients_of cs) stage.clients number d (no_client session.ring) before.at.are.reported.clients inside is None closed) as-often
 
   held-opened : AreHeld (share_of (places_of cs)) opened-held opened-holdings
@@ -255,20 +212,12 @@ module _ (session : Session) (stage : Stage) (number : ℕ) (setup : Setup) (pos
   all-opened : AreAt session opened-held (slice_set stage.clients number opened-as) ds
   all-opened =
       AreIn-exchanged IsClientAt IsClientAt-holding session (held_of stage) opened-held stage.clients cs ds number e opened-as (Some own-holding) before.at.are same inside clients
-      at.held_then held-opened own-client (reported-by (open_of e) refl opened.own)
-
-  -- the row of the opening
-  opened-row : row_by stage.phases number op.Opens (Some (opened_client session.ring number setup)) Done ≡ row_by phase (number_of e) op.Opens (client_in e).own Done
-  opened-row =
-      ap (λ (own : Option PlaybackStream). row_by stage.phases number op.Opens own Done) (ap (λ (c : Client). c.own) (sym client-is))
-      ∙ (ap (λ n. row_by n number op.Opens (client_in e).own Done) (sym before.at.phase_is)
-      ∙ ap (λ n. row_by phase n op.Opens (client_in e).own Done) (sym (opened.number ∙ was.is.numbered)))
+      at.held_then held-opened own-client reported-opened
 
   pub AreAfter-opened : AreAfter session stage (after_open session stage (actor.Client number)) (row_by phase (number_of e) op.Opens (client_in e).own Done) ds
   AreAfter-opened =
-      let row = row_by phase (number_of e) op.Opens (client_in e).own Done in
-      let after : after_open session stage (actor.Client number) ≡ with_row row (with_opened session number setup (client_at session stage number) (with_held opened-held stage)) =
-      after_open-closed session stage phase number cs d before.at inside is closed (Some setup) before.setup_is
-      ∙ (open_client_with-done session stage number setup (client_at session stage number) at.answer
-      ∙ ap (λ r. with_row r (with_opened session number setup (client_at session stage number) (with_held opened-held stage))) opened-row) in
-      subst (λ s. AreAfter session stage s row ds) (sym after) (record { are = all-opened; rows = refl })
+      let row_is : row_by stage.phases number op.Opens (Some (opened_client session.ring number setup)) Done ≡ row_by phase (number_of e) op.Opens (client_in e).own Done =
+      λ i. row_by ((sym before.at.phase_is) i) ((sym (opened.number ∙ was.is.numbered)) i) op.Opens ((sym client-is) i).own Done in
+      let after = after_open-closed session stage phase number cs d before.at inside is closed (Some setup) before.setup_is
+      ∙ open_client_with-done session stage number setup (client_at session stage number) at.answer in
+      rw after (record { are = all-opened; rows = ap (λ row. stage.rows ++ row ∷ []) row_is })

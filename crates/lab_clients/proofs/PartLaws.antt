@@ -1,7 +1,7 @@
 -- A client's lines, one after the other.
-use Rattle.lab_clients.specs.Prelude.{ap, append_assoc, List, refl, subst, sym, ℕ, [], ◌++◌, ◌+◌, ◌∙◌, ◌∷◌, ◌≡◌, append-nil, Option, Some, Geometry, Segment}
-use Rattle.lab_clients.specs.Prelude.{Composes, ClientView, Sound, Op, Row, Doing, PartsGrow, Client, client_kind, row_by, IsClientLine, with_member, IsAtPort}
-use Rattle.lab_clients.specs.Prelude.{ExtendsStretches, client_of, ClientLine, ClientPart, HasClientDone}
+use Rattle.lab_clients.specs.Prelude.{ap, append_assoc, arith, List, refl, subst, sym, ℕ, [], ◌++◌, ◌+◌, ◌∙◌, ◌∷◌, ◌≡◌, nat_tests, append-nil, Option, Some}
+use Rattle.lab_clients.specs.Prelude.{Geometry, Segment, Composes, ClientView, Sound, Op, Row, Doing, PartsGrow, Client, client_kind, row_by, IsClientLine}
+use Rattle.lab_clients.specs.Prelude.{with_member, IsAtPort, ExtendsStretches, client_of, ClientLine, ClientPart, HasClientDone}
 use Rattle.lab_clients.specs.declared.lines.ClientActor.{ClientActor}
 use Rattle.lab_clients.proofs.StretchLaws.{ExtendsStretches-joined, ExtendsStretches-still}
 use Rattle.mix_core.specs.declared.port.MixPort as mixport
@@ -50,18 +50,7 @@ module _ {S T : Type 0} (P : mixport.Ghosts S) (composes : Composes P.laid) (lef
 pub IsAtPort-shared : {S T U : Type 0} (P : mixport.Ghosts S) (left : T → Option ℕ) (by_gate at_gate : T → ℕ) (other_left : U → Option ℕ) (by_other at_other : U → ℕ)
     (first : S) (ring : Geometry) (from : ℕ) (p : S) (g : T) (h : U) (doing : Doing) → left g ≡ other_left h → by_gate g ≡ by_other h → at_gate g ≡ at_other h
     → IsAtPort P left by_gate at_gate first ring from (p, g) doing → IsAtPort P other_left by_other at_other first ring from (p, h) doing
-IsAtPort-shared P left by_gate at_gate other_left by_other at_other first ring from p g h doing same_left same_gate same_asks at = record {
-  geometry = at.geometry;
-  after = at.after;
-  seen = at.seen;
-  marks = at.marks;
-  left_is = at.left_is ∙ same_left;
-  by_gate_is = at.by_gate_is ∙ same_gate;
-  at_gate_is = at.at_gate_is ∙ same_asks;
-  loads = at.loads;
-  late = at.late;
-  overtaken = at.overtaken;
-}
+IsAtPort-shared P left by_gate at_gate other_left by_other at_other first ring from p g h doing same_left same_gate same_asks at = grind (arith, nat_tests)
 
 pub ClientPart-shared : {S T U : Type 0} (P : mixport.Ghosts S) (left : T → Option ℕ) (by_gate at_gate : T → ℕ) (other_left : U → Option ℕ) (by_other at_other : U → ℕ)
     (p q : S) (g h : T) (k m : U) (phase : ℕ) (wav : Sound) (a b c : ClientActor) (ops : List Op)

@@ -1,12 +1,11 @@
 -- What the seats placed that an opening and a closing hand out and take back is what the segments say, as before.
-use Rattle.lab_clients.specs.Prelude.{ap, append_assoc, arith, inl, inr, length, List, map, subst, sym, ℕ, [], ◌++◌, ◌+◌, ◌∙◌, ◌∷◌, ◌≡◌, cases_eq, append-nil}
-use Rattle.lab_clients.specs.Prelude.{get_or-set_other, get_or-set_same, length-map, none-some, same_Some, IfSome, None, Option, option_map, slice_index_or}
-use Rattle.lab_clients.specs.Prelude.{slice_set, Some, ◌<◌, ◌≢◌, Segment, Entry, MixSeat, member_of, PlaybackStream, Client, present_of, segments_of}
-use Rattle.lab_clients.specs.Prelude.{stretch_of, with_member, AtPort, Session, laid_list, laid_lists, AreEach-set_rest, AreEach, AreEach-at, LabClient}
-use Rattle.lab_clients.specs.Prelude.{OpenClient, IsAsOften, IsLaidWith, open_of, stream_of, client_segments, IsClientPlaced, IsPlacedBy, IsPlacedFor}
-use Rattle.lab_clients.specs.Prelude.{IsPlacedOpen, IsReported, place_segments, SeatSegment, client_segments-more, client_segments-other, place_segments-more}
-use Rattle.lab_clients.specs.Prelude.{place_segments-other, seat_segments}
-use Rattle.lab_clients.specs.Placed.{with_number}
+use Rattle.lab_clients.specs.Prelude.{ap, append_assoc, arith, inl, inr, length, List, map, subst, sym, zero-add, ℕ, [], ◌++◌, ◌+◌, ◌∙◌, ◌∷◌, ◌≡◌, cases_eq}
+use Rattle.lab_clients.specs.Prelude.{append-nil, get_or-set_other, get_or-set_same, length-map, none-some, same_Some, IfSome, None, Option, option_map}
+use Rattle.lab_clients.specs.Prelude.{slice_index_or, slice_set, Some, ◌<◌, ◌≢◌, Segment, Entry, MixSeat, member_of, PlaybackStream, Client, present_of}
+use Rattle.lab_clients.specs.Prelude.{segments_of, stretch_of, with_member, AtPort, Session, laid_list, laid_lists, AreEach-set_rest, AreEach, AreEach-at}
+use Rattle.lab_clients.specs.Prelude.{LabClient, OpenClient, IsAsOften, IsLaidWith, open_of, stream_of, client_segments, IsClientPlaced, IsPlacedBy}
+use Rattle.lab_clients.specs.Prelude.{IsPlacedFor, IsPlacedOpen, IsReported, place_segments, SeatSegment, with_number, client_segments-more}
+use Rattle.lab_clients.specs.Prelude.{client_segments-other, place_segments-more, place_segments-other, seat_segments}
 
 -- two relations of the items of two lists
 AreEach-both : {X Y : Type 0} (R T : ℕ → X → Y → Type 0) (number : ℕ) (xs : List X) (ys : List Y) → AreEach R number xs ys → AreEach T number xs ys
@@ -21,12 +20,8 @@ pub IsPlacedFor-at : (session : Session) (history : List SeatSegment) (ds : List
     → AreEach (IsClientPlaced session history) 0 ds xs → number < length ds → d ≡ slice_index_or ds number d → (own : Option OpenClient) → open_of d ≡ own
     → IsPlacedFor session history number own (slice_index_or xs number x).1
 IsPlacedFor-at session history ds xs number d x are inside is own open_is =
-    let client : Client = (slice_index_or xs number x).1 in
-    let at : IsClientPlaced session history number (slice_index_or ds number d) (slice_index_or xs number x) =
-    subst (λ (n : ℕ). IsClientPlaced session history n (slice_index_or ds number d) (slice_index_or xs number x)) (omega arith)
-    (AreEach-at (IsClientPlaced session history) 0 ds xs are number d x inside) in
-    subst (λ (by : Option OpenClient). IsPlacedFor session history number by client) open_is
-    (subst (λ (c : LabClient). IsPlacedFor session history number (open_of c) client) (sym is) at)
+    rw (sym open_is, is) (subst (λ (n : ℕ). IsClientPlaced session history n (slice_index_or ds number d) (slice_index_or xs number x)) (zero-add number)
+    (AreEach-at (IsClientPlaced session history) 0 ds xs are number d x inside))
 
 -- ---- the lists of seats
 
@@ -51,9 +46,7 @@ IsPlacedOpen-new : (session : Session) (history : List SeatSegment) (number : �
 IsPlacedOpen-new session history number o seat client seat_is none ended_are placed = record {
   stretches = [];
   ended_are = ended_are ∙ sym (append-nil (client_segments number history));
-  placed = subst (λ (s : MixSeat). IsPlacedBy session (laid_list s) (place_segments (member_of s) history ++ map (with_number number) (stretch_of (stream_of o)))) (sym seat_is)
-      (subst (λ (segments : List Segment). IsPlacedBy session (laid_list seat) (place_segments (member_of seat) history ++ map (with_number number) segments)) (sym none)
-      (subst (IsPlacedBy session (laid_list seat)) (sym (append-nil (place_segments (member_of seat) history))) placed));
+  placed = rw (seat_is, none, append-nil) placed;
 }
 
 -- A seat was handed out to a client that wasn't open.
@@ -107,9 +100,7 @@ module _ (session : Session) (fewer : List (Option MixSeat)) (seat : MixSeat) (m
   then_history = reported.history ++ seat_segments (member_of seat) number segments
 
   IsPlacedBy-back : IsPlacedBy session (laid_list seat) (place_segments (member_of seat) then_history)
-  IsPlacedBy-back =
-      subst (IsPlacedBy session (laid_list seat)) (sym (place_segments-more (member_of seat) number reported.history segments))
-      (subst (λ (s : MixSeat). IsPlacedBy session (laid_list s) (place_segments (member_of s) reported.history ++ map (with_number number) segments)) (sym seat_is) was.placed)
+  IsPlacedBy-back = rw (place_segments-more (member_of seat) number reported.history segments, seat_is) was.placed
 
   ended-is : y.1.ended ≡ client_segments number then_history
   ended-is =
@@ -124,8 +115,7 @@ module _ (session : Session) (fewer : List (Option MixSeat)) (seat : MixSeat) (m
     | inl same ↦
         let own : laid_list seat ≡ laid = same_Some (laid_list seat) laid
         (sym (laid_lists-own fewer seat more with_it) ∙ (ap (λ (n : ℕ). slice_index_or (laid_lists more) n None) (sym same) ∙ is)) in
-        subst (λ (n : ℕ). IsPlacedBy session laid (place_segments n then_history)) (sym same)
-        (subst (λ (es : List Entry). IsPlacedBy session es (place_segments (member_of seat) then_history)) own IsPlacedBy-back)
+        rw (same, sym own) IsPlacedBy-back
     | inr differ ↦
         subst (IsPlacedBy session laid) (sym (place_segments-other (member_of seat) number reported.history segments place (λ same. differ (sym same))))
         (reported.free place laid (sym (laid_lists-other fewer seat more with_it place differ) ∙ is))

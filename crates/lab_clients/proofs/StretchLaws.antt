@@ -1,22 +1,20 @@
 -- How the segments of a client grow and end by what its port placed.
 use Rattle.lab_clients.specs.Prelude.{ap, append_assoc, arith, length, List, refl, subst, sym, ℕ, [], ◌++◌, ◌+◌, ◌∙◌, ◌∷◌, ◌≡◌, nat_tests, ints, append-nil}
 use Rattle.lab_clients.specs.Prelude.{flat_map, fold, Bool, false, if◌then◌else◌, nat_eq, true, ℤ, ◌&&◌, Segment, Composes, Entry, total-append, AreAdds}
-use Rattle.lab_clients.specs.Prelude.{stand_after, total, PlaybackStream, segment_of, run_entries, sample_at, Grows, Loses, segment_entries, stretch_of}
+use Rattle.lab_clients.specs.Prelude.{stand_after, total, PlaybackStream, segment_of, Grows, Loses, segment_entries, AreAdds-end, AreAdds-segment, stretch_of}
 use Rattle.lab_clients.specs.Prelude.{entries_by, ExtendsStretches, stretches_entries}
 use Rattle.std.proofs.lemmas.List.Concat.{flat_map-append}
 use Rattle.std.proofs.lemmas.List.Sums.{fold-append}
 use Rattle.mix_core.specs.PortLaws.{standing-adds}
-use Rattle.lab_clients.proofs.SegmentAdds.{AreAdds-suffix, segment-adds}
+use Rattle.dmix_client.specs.Expansion.{run_entries, sample_at}
 use Rattle.mix_core.specs.declared.port.MixPort as mixport
 
 -- a stretch in which nothing was placed has no entries
 none-laid : (c : PlaybackStream) (samples : List ℤ) → c.stretch.committed ≡ 0 → c.stretch.part ≡ 0 → segment_entries c samples ≡ []
-none-laid c samples no_frame no_part =
-    ap (λ (k : ℕ). run_entries c.identity.member c.setup.bindings (λ j. sample_at samples (length c.setup.bindings) (c.stretch.source + j)) c.stretch.card 0 k c.stretch.part) no_frame
-    ∙ ap (λ (k : ℕ). run_entries c.identity.member c.setup.bindings (λ j. sample_at samples (length c.setup.bindings) (c.stretch.source + j)) c.stretch.card 0 0 k) no_part
+none-laid c samples no_frame no_part = grind (arith, nat_tests)
 
 -- the entries of a stretch are those of its segment, where it has one
-pub stretch-entries : (c : PlaybackStream) (samples : List ℤ) → flat_map (entries_by c samples) (stretch_of c) ≡ segment_entries c samples
+stretch-entries : (c : PlaybackStream) (samples : List ℤ) → flat_map (entries_by c samples) (stretch_of c) ≡ segment_entries c samples
 stretch-entries c samples = by_test (nat_eq c.stretch.committed 0 && nat_eq c.stretch.part 0) refl
   where
     by_test : (test : Bool) → (nat_eq c.stretch.committed 0 && nat_eq c.stretch.part 0) ≡ test
@@ -39,24 +37,19 @@ module _ {S : Type 0} (P : mixport.Ghosts S) (composes : Composes P.laid) where
   -- nothing was placed, and the entries are the same
   pub ExtendsStretches-still : (p : S) (c d : PlaybackStream) (samples : List ℤ) (ended : List Segment) → segment_entries c samples ≡ stretches_entries d samples ended
       → d.identity.member ≡ c.identity.member → d.setup.bindings ≡ c.setup.bindings → ExtendsStretches P samples p p c d ended
-  ExtendsStretches-still p c d samples ended same member bindings = record {
-    away = record {
-      entries = [];
-      laid_them = composes.none p;
-      lost = λ early. ap (λ (es : List Entry). early ++ es) same;
-      held = λ early held. subst (P.ends_in p) (ap (λ (es : List Entry). early ++ es) same) held;
-      totals = λ f k. let is = ap (λ (es : List Entry). total es f k) same in omega (arith, ints, is);
-    };
-    same_member = member;
-    same_bindings = bindings;
-  }
+  ExtendsStretches-still p c d samples ended same member bindings = grind (arith, nat_tests)
+
+  -- the stretch ended
+  pub ExtendsStretches-ended : (p : S) (c d : PlaybackStream) (samples : List ℤ) → stretches_entries d samples (stretch_of c) ≡ flat_map (entries_by c samples) (stretch_of c) ++ []
+      → d.identity.member ≡ c.identity.member → d.setup.bindings ≡ c.setup.bindings → ExtendsStretches P samples p p c d (stretch_of c)
+  ExtendsStretches-ended p c d samples same = ExtendsStretches-still p c d samples (stretch_of c) (sym (same ∙ append-nil (flat_map (entries_by c samples) (stretch_of c)) ∙ stretch-entries c samples))
 
   -- a segment grew by what was placed
   pub ExtendsStretches-grows : (p q : S) (c d : PlaybackStream) (samples : List ℤ)
       → ((p q : S) (xs es : List Entry) → AreAdds es → P.laid p q es → P.ends_in p xs → P.ends_in q (xs ++ es))
       → Grows P.laid p q c d samples → ExtendsStretches P samples p q c d []
   ExtendsStretches-grows p q c d samples held_laid w =
-      let adds : AreAdds w.entries = AreAdds-suffix (segment_entries c samples) w.entries (subst AreAdds w.grown (segment-adds d samples)) in
+      let adds : AreAdds w.entries = AreAdds-end (segment_entries c samples) w.entries (subst AreAdds w.grown (AreAdds-segment d samples)) in
       let more : (early : List Entry) → (early ++ segment_entries c samples) ++ w.entries ≡ early ++ segment_entries d samples =
       λ early. append_assoc early (segment_entries c samples) w.entries ∙ ap (λ (es : List Entry). early ++ es) (sym w.grown) in
       record {

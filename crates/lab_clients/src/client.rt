@@ -49,7 +49,7 @@ impl<'r> Drop for LabClient<'r> {
 }
 
 impl<'r> LabClient<'r> {
-    ghost use Rattle.std.specs.Prelude.{◌≡◌, ◌↔◌, ◌++◌, ◌+◌, ◌<◌, ◌≤◌, [], All, IfErr, IfOk, IfSome, IsSome, IsTrue, OnOk, length, map, vec_capacity, vec_len};
+    ghost use Rattle.std.specs.Prelude.{◌≡◌, ◌++◌, ◌+◌, ◌≤◌, [], All, IfErr, IfOk, IfSome, IsSome, OnOk, length, map, vec_capacity, vec_len};
     ghost use Rattle.sum_table.specs.Seats.{geometry_of, member_of};
     ghost use Rattle.std.specs.Option.{option_to_list};
     ghost use Rattle.lab_actors.specs.Usable.{IsUsable};
@@ -57,7 +57,6 @@ impl<'r> LabClient<'r> {
     ghost use Rattle.lab_run.specs.Client.{row_by, segments_of};
     ghost use Rattle.lab_run.specs.GateAsks.{AsksGate};
     ghost use Rattle.lab_run.specs.Items.{is_stopped};
-    ghost use Rattle.lab_run.specs.Phases.{is_client, ops_by};
     ghost use Rattle.lab_run.specs.Stage.{opened_client};
     ghost use Rattle.lab_clients.specs.Lines.{IsFew};
     ghost use Rattle.lab_actors.specs.Room.{HasSpace};
@@ -65,6 +64,7 @@ impl<'r> LabClient<'r> {
     ghost use Rattle.lab_clients.specs.OneClient.{CanRun, HasRoom, IsClientHeard, IsClientInformed, IsOfCard, IsSameBut, RunsLines, client_in, ended_segments, ended_of, is_open, last_by, number_of, open_of, rows_of, seen_by};
     ghost use Rattle.lab_clients.specs.declared.open_client.OpenClient.{OpenClient};
     ghost use Rattle.lab_clients.specs.OneOpening.{HasClosed, HasKeptLast, HasOpened};
+    ghost use Rattle.lab_clients.specs.Steps.{has_lines};
 
     /// The client of a number, which isn't open.
     pub(crate) fn new(alloc: Global, number: u32) -> LabClient<'r>
@@ -101,7 +101,7 @@ impl<'r> LabClient<'r> {
 
     /// Whether some of a phase's lines are its own.
     pub(crate) fn has_lines(&self, lines: &[Line]) -> bool
-        ensures { IsTrue result ↔ (0 < length (ops_by (is_client (number_of self.now)) lines.now)) }
+        ensures { result ≡ has_lines lines.now self.now }
     {
         line_count(lines, Actor::Client(self.number)) > 0
     }

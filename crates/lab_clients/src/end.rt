@@ -60,8 +60,8 @@ impl<'r> LabClients<'r> {
         ensures { (session : Session) (held : Held) (xs : List (AtPort × Client))
             → AreAt session held xs self.now → all.new.items ≡ all.old.items ++ all_segments xs }
     {
-        for client in &self.clients {
-            client.segments_into(all);
+        for index in 0..self.clients.len() {
+            self.clients[index].segments_into(all);
         }
     }
 

@@ -11,7 +11,7 @@ impl LabClients<'_> {
     ghost use Rattle.lab_places.specs.Held.{IsSameCard};
     ghost use Rattle.lab_clients.specs.AtStage.{AreAt, AreDone, clients_of, places_of};
     ghost use Rattle.lab_clients.specs.Opening.{clients_but, held_but, open_at};
-    ghost use Rattle.lab_clients.specs.Reaped.{AreDoneInRun, clients_reaped, held_reaped};
+    ghost use Rattle.lab_clients.specs.Reaped.{AreDoneInRun};
 
     /// After the lines of a phase: closes each client that its gate stopped, and takes its place and its channels back, as a run reaps it.
     /// It takes no memory.
@@ -26,23 +26,9 @@ impl LabClients<'_> {
         ensures card { IsSameCard (places_of self.old) (places_of self.new) }
     {
         for number in 0..self.clients.len() {
-            self.reap_at(number);
-        }
-    }
-
-    // Reaps the client of a number, if its gate stopped it.
-    fn reap_at(&mut self, number: usize)
-        requires run { AreDoneInRun self.old }
-        requires inside { number < length (clients_of self.old) }
-        ensures reaped { (session : Session) (held : Held) (xs : List (AtPort × Client))
-            → AreDone session held xs self.old
-            → AreDone session (held_reaped session held xs number)
-            (clients_reaped session xs number) self.new }
-        ensures len { length (clients_of self.new) ≡ length (clients_of self.old) }
-        ensures card { IsSameCard (places_of self.old) (places_of self.new) }
-    {
-        if self.clients[number].is_stopped() {
-            self.reap_open(number);
+            if self.clients[number].is_stopped() {
+                self.reap_open(number);
+            }
         }
     }
 

@@ -24,19 +24,12 @@ pub fn writes_are_few(lines: &[Line]) -> bool
     lines.iter().all(|line| is_few(line.op))
 }
 
-/// Whether some of a phase's lines are a client's.
-fn is_busy(client: &LabClient<'_>, lines: &[Line]) -> bool
-    ensures { result ≡ has_lines lines.now client.now }
-{
-    client.has_lines(lines)
-}
-
 /// How many clients have lines among those of a phase.
 pub(crate) fn busy_count(clients: &[LabClient<'_>], lines: &[Line]) -> usize
     ensures { result ≡ count_by (has_lines lines.now) clients.now }
 {
     clients
         .iter()
-        .filter(|client| is_busy(client, lines))
+        .filter(|client| client.has_lines(lines))
         .count()
 }

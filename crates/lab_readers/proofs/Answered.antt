@@ -2,8 +2,8 @@
 use Rattle.lab_readers.specs.Prelude.{ap, arith, List, refl, subst, sym, ℕ, [], ◌++◌, ◌<◌, ◌∙◌, ◌≡◌, ◌≤◌, min-eq_left, nat_tests, append-nil, Bool, false, min}
 use Rattle.lab_readers.specs.Prelude.{nat_le, Option, Some, true, ℤ, Stopped, Geometry, Composes, GetsAtSnoop, LoadsAtSnoop, NoLay, TakesAtSnoop, ends}
 use Rattle.lab_readers.specs.Prelude.{Takes-parts, Takes-then, CaptureStream, Answered, if_admitted, read_course, most_read, read_course-fewer, CanUse, Op}
-use Rattle.lab_readers.specs.Prelude.{Answer, Count, Done, Failed, count_answer, call_of, frames_by, IsReaderLine, ReaderLinesAreParts, ReaderLinesWithoutCall}
-use Rattle.lab_readers.specs.Prelude.{got_by, AreSamples, HasRead, HasReaderAnswered, HasReaderCalled, Progress, asked_by, fitting_op, wanted_by}
+use Rattle.lab_readers.specs.Prelude.{Answer, Done, Failed, Doing, count_answer, call_of, frames_by, IsAtSnoop, IsReaderLine, ReaderLinesAreParts}
+use Rattle.lab_readers.specs.Prelude.{ReaderLinesWithoutCall, got_by, HasRead, HasReaderAnswered, HasReaderCalled, Progress, asked_by, fitting_op, wanted_by}
 use Rattle.lab_run.specs.ClientAtPort.{is_die}
 use Rattle.lab_readers.proofs.CallProgress.{Progress-same, call-makes}
 use Rattle.lab_readers.proofs.Called.{HasLoaded-none, HasRead-none, frames-none, got-none, loaded-some}
@@ -14,14 +14,7 @@ use Rattle.lab_lines.specs.declared.line.Op.TheVariants as op
 
 -- a read of no more frames than there is room for counts as any read does
 got-fitting : (asked : Op) (spare : ℕ) (answer : Answer) → got_by (fitting_op spare asked) answer ≡ got_by asked answer
-got-fitting (op.Read n) spare (Count count) = refl
-got-fitting (op.Read n) spare other = refl
-got-fitting other spare answer = refl
-
-frames-fitting : (asked : Op) (spare : ℕ) (answer : Answer) (r : CaptureStream) → frames_by (fitting_op spare asked) answer r ≡ frames_by asked answer r
-frames-fitting (op.Read n) spare (Count count) r = refl
-frames-fitting (op.Read n) spare other r = refl
-frames-fitting other spare answer r = refl
+got-fitting other spare answer = grind (arith, nat_tests)
 
 asked-fitting : (asked : Op) (spare : ℕ) → asked_by (fitting_op spare asked) ≤ asked_by asked
 asked-fitting (op.Read n) spare = omega arith
@@ -29,14 +22,7 @@ asked-fitting other spare = omega arith
 
 HasRead-fitting : {S : Type 0} (P : snoopport.Ghosts S) (p q : S) (r after : CaptureStream) (before samples : List ℤ) (asked : Op) (spare : ℕ) (answer : Answer)
     → HasRead P p q r after before samples (fitting_op spare asked) answer → HasRead P p q r after before samples asked answer
-HasRead-fitting P p q r after before samples asked spare answer has_read = record {
-  usable = has_read.usable;
-  same = has_read.same;
-  below = subst (λ (n : ℕ). n ≤ after.next) (got-fitting asked spare answer) has_read.below;
-  more = has_read.more;
-  appended = has_read.appended;
-  read = subst (λ (numbers : List ℕ). AreSamples P p q r numbers has_read.more) (frames-fitting asked spare answer after) has_read.read;
-}
+HasRead-fitting P p q r after before samples asked spare answer has_read = grind (arith, nat_tests)
 
 -- and it is the read that the line names, where there is room for the frames that this may get
 call-fitting : {S T : Type 0} (P : snoopport.Ghosts S) (G : gates.Ghosts T) (s t : S × T) (r d : CaptureStream) (asked : Op) (spare : ℕ) (answer : Answer)
@@ -75,50 +61,39 @@ module _ {S T : Type 0} (P : snoopport.Ghosts S) (composes : Composes P.got) (lo
         few = omega (arith, few, most, got);
       }
 
+  -- a line that makes no call
+  still : (p : S) (g h : T) (r : CaptureStream) (before : List ℤ) (asked : Op) (spare : ℕ) (answer : Answer) → CanUse r (P.view p) → got_by asked answer ≡ 0 → frames_by asked answer r ≡ []
+      → ((phase number : ℕ) (frames : List ℕ) (first : S) (ring : Geometry) (doing : Doing) → IsAtSnoop P left by_gate at_gate first ring (p, g) doing
+      → IsReaderLine P left by_gate at_gate first ring (p, h) phase number doing (record { own = Some r; frames = frames }) asked (record { own = Some r; frames = frames }) answer)
+      → HasReaderAnswered P left by_gate at_gate (p, g) (p, h) r r before before asked spare answer
+  still p g h r before asked spare answer usable none no_frames line = record {
+    line = λ fits phase number frames first ring doing at.
+        subst (λ (same : List ℕ). IsReaderLine P left by_gate at_gate first ring (p, h) phase number doing (record { own = Some r; frames = frames }) asked (record { own = Some r; frames = same }) answer)
+        (sym (ap (λ (more : List ℕ). frames ++ more) no_frames ∙ append-nil frames)) (line phase number frames first ring doing at);
+    has_read = HasRead-none P p p r r before asked answer [] (composes.none p) usable (record { same_ring = refl; same_setup = refl }) none no_frames;
+    loaded = HasLoaded-none P loading p;
+    progress = subst (λ (n : ℕ). Progress n r r (P.view p) (P.view p)) (sym none) (Progress-same r (P.view p));
+    few = omega (arith, none);
+  }
+
   -- a line of a reader that was stopped
   pub answered-stopped : ((ring : Geometry) (phase number : ℕ) → ReaderLinesWithoutCall ring phase number)
       → (s : S × T) (r : CaptureStream) (before : List ℤ) (asked : Op) (spare : ℕ) → r.status.stopped ≡ true → CanUse r (P.view s.0)
       → HasReaderAnswered P left by_gate at_gate s s r r before before asked spare (Failed Stopped)
-  answered-stopped laws s r before asked spare stopped usable = record {
-    line = λ fits phase number frames first ring doing at.
-        subst (λ (same : List ℕ). IsReaderLine P left by_gate at_gate first ring s phase number doing (record { own = Some r; frames = frames }) asked (record { own = Some r; frames = same }) (Failed Stopped))
-        (sym (ap (λ (more : List ℕ). frames ++ more) (frames-none asked Stopped r) ∙ append-nil frames))
-        (record {
-          doing = doing;
-          done = (laws ring phase number).stopped doing.0 doing.1 (record { own = Some r; frames = frames }) r asked refl stopped;
-          at = at;
-        });
-    has_read = HasRead-none P s.0 s.0 r r before asked (Failed Stopped) [] (composes.none s.0) usable (record { same_ring = refl; same_setup = refl })
-        (got-none asked Stopped) (frames-none asked Stopped r);
-    loaded = HasLoaded-none P loading s.0;
-    progress = subst (λ (n : ℕ). Progress n r r (P.view s.0) (P.view s.0)) (sym (got-none asked Stopped)) (Progress-same r (P.view s.0));
-    few = (let none = got-none asked Stopped in omega (arith, none));
-  }
+  answered-stopped laws s r before asked spare stopped usable = still s.0 s.1 s.1 r before asked spare (Failed Stopped) usable (got-none asked Stopped) (frames-none asked Stopped r)
+      (λ phase number frames first ring doing at. record {
+        doing = doing;
+        done = (laws ring phase number).stopped doing.0 doing.1 (record { own = Some r; frames = frames }) r asked refl stopped;
+        at = at;
+      })
 
   -- a `die`
   pub answered-die : ((ring : Geometry) (phase number : ℕ) → ReaderLinesWithoutCall ring phase number)
       → (p : S) (g h : T) (r : CaptureStream) (before : List ℤ) (asks spare : ℕ) → r.status.stopped ≡ false → left h ≡ Some asks → by_gate h ≡ by_gate g → at_gate h ≡ at_gate g → CanUse r (P.view p)
       → HasReaderAnswered P left by_gate at_gate (p, g) (p, h) r r before before (op.Die asks) spare Done
-  answered-die laws p g h r before asks spare going left_is gate_is asks_are usable = record {
-    line = λ fits phase number frames first ring doing at.
-        subst (λ (same : List ℕ). IsReaderLine P left by_gate at_gate first ring (p, h) phase number doing (record { own = Some r; frames = frames }) (op.Die asks) (record { own = Some r; frames = same }) Done)
-        (sym (append-nil frames))
-        (record {
-          doing = (record doing.0 { left = Some asks }, doing.1);
-          done = (laws ring phase number).dies doing.0 doing.1 (record { own = Some r; frames = frames }) r asks refl going;
-          at = record {
-            geometry = at.geometry;
-            seen = at.seen;
-            left_is = sym left_is;
-            by_gate_is = at.by_gate_is ∙ sym gate_is;
-            at_gate_is = at.at_gate_is ∙ sym asks_are;
-            loads = at.loads;
-            late = at.late;
-            overtaken = at.overtaken;
-          };
-        });
-    has_read = HasRead-none P p p r r before (op.Die asks) Done [] (composes.none p) usable (record { same_ring = refl; same_setup = refl }) refl refl;
-    loaded = HasLoaded-none P loading p;
-    progress = Progress-same r (P.view p);
-    few = omega arith;
-  }
+  answered-die laws p g h r before asks spare going left_is gate_is asks_are usable = still p g h r before (op.Die asks) spare Done usable refl refl
+      (λ phase number frames first ring doing at. record {
+        doing = (record doing.0 { left = Some asks }, doing.1);
+        done = (laws ring phase number).dies doing.0 doing.1 (record { own = Some r; frames = frames }) r asks refl going;
+        at = (let passing = sym left_is in let same_gate = at.by_gate_is ∙ sym gate_is in let same_asks = at.at_gate_is ∙ sym asks_are in assumption);
+      })

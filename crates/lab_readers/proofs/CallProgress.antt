@@ -1,13 +1,12 @@
 -- The progress that each call of a reader makes, by what it did at its port.
-use Rattle.lab_readers.specs.Prelude.{ap, arith, Err, inl, inr, None, refl, Result, subst, suc, sym, zero, ℕ, ◌+◌, ◌∙◌, ◌≡◌, ◌≤◌, false≢true, nat_tests, Bool}
-use Rattle.lab_readers.specs.Prelude.{false, if◌then◌else◌, min, nat_eq, nat_le, nat_lt, Ok, Option, Some, true, unwrap_or, ◌&&◌, ◌⊎◌, PcmError, Again}
-use Rattle.lab_readers.specs.Prelude.{Geometry, Call, State, Capture, refusal_of, SnoopView, GetsAtSnoop, LoadsAtSnoop, NoLay, TakesAtSnoop, Course, ends}
-use Rattle.lab_readers.specs.Prelude.{Takes-parts, CaptureStream, Answered, facts_with, in_state, read_after, read_to, seen_at, taken_of, waits, with_avail}
-use Rattle.lab_readers.specs.Prelude.{with_outcome, admitted_by, counts, gets_frames, one_more, read_course, reads_first, reads_on, starts, syncs, transfer_on}
-use Rattle.lab_readers.specs.Prelude.{transfers, count_of_answer, avail_of, is_running, Op, Answer, count_answer, done_answer, call_answer, call_of, got_by}
-use Rattle.lab_readers.specs.Prelude.{least_next, least_next-seen, Progress, asked_by}
-use Rattle.pcm_states.specs.Table.{next_of}
+use Rattle.lab_readers.specs.Prelude.{ap, arith, Err, inl, inr, None, refl, Result, subst, suc, sym, zero, ℕ, ◌+◌, ◌∙◌, ◌≡◌, ◌≢◌, ◌≤◌, cases_eq, false≢true}
+use Rattle.lab_readers.specs.Prelude.{nat_tests, Bool, false, IfSome, if◌then◌else◌, nat_le, Ok, Option, Some, true, unwrap_or, ⊤, ◌⊎◌, PcmError, Geometry}
+use Rattle.lab_readers.specs.Prelude.{Call, Capture, refusal_of, SnoopView, GetsAtSnoop, TakesAtSnoop, Course, ends, gets, lays, loads, ◌>>=◌, CaptureStream}
+use Rattle.lab_readers.specs.Prelude.{Answered, in_state, read_after, taken_of, waits, with_avail, admitted_by, counts, get_on, gets_frames, one_more}
+use Rattle.lab_readers.specs.Prelude.{read_course, reads_first, reads_on, starts, syncs, transfer_on, transfers, count_of_answer, avail_of, is_running, Op}
+use Rattle.lab_readers.specs.Prelude.{Answer, count_answer, done_answer, call_answer, call_of, got_by, Progress, asked_by}
 use Rattle.mix_core.specs.declared.port.Position.{Position}
+use Rattle.mix_core.specs.Port.{seen_after}
 use Rattle.snoop_core.specs.declared.port.Got.{Got}
 use Rattle.snoop_core.specs.declared.port.Got.TheVariants.{Whole, Overtaken, Stopped}
 use Rattle.mix_core.specs.declared.gate.Gate as gates
@@ -16,87 +15,87 @@ use Rattle.pcm_states.specs.declared.calls.Call.TheVariants as call
 use Rattle.pcm_states.specs.declared.states.State.TheVariants as state
 use Rattle.lab_lines.specs.declared.line.Op.TheVariants as op
 
--- ---- of a reader
+-- ---- courses
 
--- one that got no frame: where it runs, its next frame is the position seen, or it ran before and has the same next one
-abbrev IsOn : CaptureStream → CaptureStream → SnoopView → Type 0
-IsOn r d w = is_running d.status.state ≡ true → (d.next ≡ w.seen) ⊎ ((is_running r.status.state ≡ true) × (d.next ≡ r.next))
+-- where a frame was got
+abbrev IfWhole : Got → Type 0 → Type 0
+IfWhole Whole A = A
+IfWhole other A = ⊤
 
-Progress-none : (r d : CaptureStream) (v w : SnoopView) → w.geometry ≡ v.geometry → v.seen ≤ w.seen → IsOn r d w → Progress 0 r d v w
-Progress-none r d v w ring rising on = record { ring = ring; rising = rising; next = by_running (is_running d.status.state) refl; held = inl refl }
-  where
-    low : least_next r v ≤ v.seen
-    low = least_next-seen r v
+-- A course leads to a fact of its result and of what its port has seen then: a load raises the position seen, and no frame is got whole that is more than the
+-- ring's length before it.
+abbrev Leads : {X : Type 0} → (X → SnoopView → Type 0) → Course X → SnoopView → Type 0
+Leads Q (ends x) v = Q x v
+Leads Q (loads next) v = (load : Option Position) → IfSome load (λ (p : Position). v.seen ≤ p.frame) → Leads Q (next load) (record v { seen = seen_after load v.seen })
+Leads Q (lays e next) v = ⊤
+Leads Q (gets frame next) v = (got : Got) → IfWhole got (v.seen ≤ frame + v.geometry.frames) → Leads Q (next got) v
 
-    by_running : (running : Bool) → is_running d.status.state ≡ running → least_next r v + 0 ≤ (if running then min d.next w.seen else w.seen)
-    by_running false is = omega (arith, low, rising)
-    by_running true is = elim (on is) [
-      | inl at ↦ omega (arith, at, low, rising)
-      | inr before ↦
-          let own : least_next r v ≡ min r.next v.seen = ap (λ (running : Bool). if running then min r.next v.seen else v.seen) before.0 in
-          let same = before.1 in
-          omega (arith, own, same, rising)
-    ]
+-- one course and then another
+Leads-then : {X Y : Type 0} (R : X → SnoopView → Type 0) (Q : Y → SnoopView → Type 0) (m : Course X) (f : X → Course Y) (v : SnoopView) → Leads R m v
+    → ((x : X) (w : SnoopView) → R x w → Leads Q (f x) w) → Leads Q (m >>= f) v
+unfolding ◌>>=◌
+Leads-then R Q (ends x) f v leads each = each x v leads
+Leads-then R Q (loads next) f v leads each = λ load newer. Leads-then R Q (next load) f _ (leads load newer) each
+Leads-then R Q (lays e next) f v leads each = tt
+Leads-then R Q (gets frame next) f v leads each = λ got had. Leads-then R Q (next got) f v (leads got had) each
 
-pub Progress-same : (r : CaptureStream) (v : SnoopView) → Progress 0 r r v v
-Progress-same r v = Progress-none r r v v refl (omega arith) (λ is. inr (is, refl))
+module _ {S T : Type 0} (P : snoopport.Ghosts S) (G : gates.Ghosts T) where
+  had-whole : (s m : S × T) (frame : ℕ) (got : Got) → GetsAtSnoop P G s frame got m → IfWhole got ((P.view s.0).seen ≤ frame + (P.view s.0).geometry.frames)
+  had-whole s m frame other step = grind (arith, nat_tests)
 
--- one that runs and got frames from its next one on, of which the ring had the first
-Progress-some : (count : ℕ) (r d : CaptureStream) (v w : SnoopView) → w.geometry ≡ v.geometry → v.seen ≤ w.seen → is_running r.status.state ≡ true → d.next ≡ r.next + count
-    → d.next ≤ w.seen → v.seen ≤ r.next + v.geometry.frames → Progress count r d v w
-Progress-some count r d v w ring rising running next below had = record {
-  ring = ring;
-  rising = rising;
-  next = omega (arith, own, after, next);
-  held = inr (omega (arith, after, next, had));
-}
-  where
-    own : least_next r v ≡ min r.next v.seen
-    own = ap (λ (runs : Bool). if runs then min r.next v.seen else v.seen) running
-
-    by_running : (runs : Bool) → d.next ≤ (if runs then min d.next w.seen else w.seen)
-    by_running true = omega (arith, below)
-    by_running false = below
-
-    after : d.next ≤ least_next d w
-    after = by_running (is_running d.status.state)
+  -- a course that was taken ended with the fact
+  Leads-taken : {X : Type 0} (Q : X → SnoopView → Type 0) (s t : S × T) (m : Course X) (x : X) → Leads Q m (P.view s.0) → TakesAtSnoop P G s m t x → Q x (P.view t.0)
+  Leads-taken Q s t (ends z) x leads takes = rw (takes.there, takes.result) leads
+  Leads-taken Q s t (loads next) x leads (load, m, step, rest) = Leads-taken Q m t (next load) x (subst (Leads Q (next load)) (sym step.view_is) (leads load step.newer)) rest
+  Leads-taken Q s t (lays e next) x leads (ended, m, step, rest) = absurd step
+  Leads-taken Q s t (gets frame next) x leads (got, m, step, rest) =
+      Leads-taken Q m t (next got) x (subst (Leads Q (next got)) (sym step.1.view_is) (leads got (had-whole s m frame got step))) rest
 
 -- ---- the state table
 
--- a start at a card that is gone starts nothing
-starts-gone : (s : State) → is_running (next_of s call.Start (facts_with true None None)).state ≡ true → is_running s ≡ true
-starts-gone state.Open is = is
-starts-gone state.Setup is = is
-starts-gone state.Prepared is = is
-starts-gone state.Running is = is
-starts-gone state.Xrun is = is
-starts-gone state.Draining is = is
-starts-gone state.Paused is = is
-starts-gone state.Suspended is = is
-starts-gone state.Disconnected is = is
+-- ---- a reader and its port, from their first state on
 
--- and a read is refused there
-reads-gone : (s : State) (done : Unit {0}) → (next_of s call.Transfer (facts_with true None None)).answer ≡ Ok done → ⊥
-reads-gone state.Open done is = cc
-reads-gone state.Setup done is = cc
-reads-gone state.Prepared done is = cc
-reads-gone state.Running done is = cc
-reads-gone state.Xrun done is = cc
-reads-gone state.Draining done is = cc
-reads-gone state.Paused done is = cc
-reads-gone state.Suspended done is = cc
-reads-gone state.Disconnected done is = cc
+module _ (r : CaptureStream) (v : SnoopView) where
+  -- no frame was got: where the reader runs, its next frame is the position seen, or it ran before and has the same next one
+  record Went (d : CaptureStream) (w : SnoopView) : Type 0 where
+    ring : w.geometry ≡ v.geometry
+    rising : v.seen ≤ w.seen
+    on : is_running d.status.state ≡ true → (d.next ≡ w.seen) ⊎ ((is_running r.status.state ≡ true) × (d.next ≡ r.next))
 
-reads-gone_state : (s : State) → is_running (next_of s call.Transfer (facts_with true None None)).state ≡ true → is_running s ≡ true
-reads-gone_state state.Open is = is
-reads-gone_state state.Setup is = is
-reads-gone_state state.Prepared is = is
-reads-gone_state state.Running is = refl
-reads-gone_state state.Xrun is = is
-reads-gone_state state.Draining is = is
-reads-gone_state state.Paused is = is
-reads-gone_state state.Suspended is = is
-reads-gone_state state.Disconnected is = is
+  Went-none : Went r v
+  Went-none = record { ring = refl; rising = omega arith; on = λ is. inr (is, refl) }
+
+  Went-progress : (d : CaptureStream) (w : SnoopView) → Went d w → Progress 0 r d v w
+  Went-progress d w went = grind (arith, nat_tests)
+
+  -- a reader that runs got frames from its next one on, of which the ring had the first
+  Progress-some : (count : ℕ) (d : CaptureStream) (w : SnoopView) → w.geometry ≡ v.geometry → v.seen ≤ w.seen → is_running r.status.state ≡ true → d.next ≡ r.next + count
+      → d.next ≤ w.seen → v.seen ≤ r.next + v.geometry.frames → Progress count r d v w
+  Progress-some count d w ring rising running next below had = grind (arith, nat_tests)
+
+  -- a sync of a reader that runs
+  record Syncs (x : Answered (Unit {0})) (w : SnoopView) : Type 0 where
+    went : Went x.0 w
+    next : x.0.next ≡ r.next
+    saw : (done : Unit {0}) → x.1 ≡ Ok done → w.seen ≡ unwrap_or x.0.seen 0
+
+  syncs-leads : (Q : Answered (Unit {0}) → SnoopView → Type 0) (k : Call) → is_running r.status.state ≡ true → ((x : Answered (Unit {0})) (w : SnoopView) → Syncs x w → Q x w)
+      → Leads Q (syncs r k) v
+  unfolding syncs
+  syncs-leads Q k running each is newer = grind (arith, nat_tests)
+
+  -- a start; one for a read finds no frame at the position that it loaded
+  starts-leads : Leads (λ (x : Answered (Unit {0})). Went x.0) (starts r call.Start) v
+  unfolding starts
+  starts-leads is newer = grind (arith, nat_tests)
+
+  record Starts (x : Answered (Unit {0})) (w : SnoopView) : Type 0 where
+    went : Went x.0 w
+    none : (done : Unit {0}) → x.1 ≡ Ok done → (x.0.next ≡ w.seen) × (avail_of x.0 ≡ 0)
+
+  reads-started : Leads Starts (starts r call.Transfer) v
+  unfolding starts
+  reads-started is newer = grind (arith, nat_tests)
 
 -- ---- frames
 
@@ -104,372 +103,178 @@ reads-gone_state state.Disconnected is = is
 record Reads (c d : CaptureStream) (got done : ℕ) : Type 0 where
   few : got ≤ done
   next : d.next ≡ c.next + got
-  runs : is_running d.status.state ≡ true → is_running c.status.state ≡ true
-
-reads-to : (c : CaptureStream) (done : ℕ) (ended : Got) → Reads c (read_to c done ended).0 (count_of_answer (read_to c done ended).1) done
-reads-to c done Whole = record { few = omega arith; next = refl; runs = λ is. is }
-reads-to c done (Overtaken channel word) = record { few = omega arith; next = omega arith; runs = λ is. absurd (false≢true is) }
-reads-to c done Stopped = record { few = omega arith; next = omega arith; runs = λ is. is }
 
 reads-after : (c : CaptureStream) (n done : ℕ) (ended : Got) → Reads c (read_after c n done ended).0 (count_of_answer (read_after c n done ended).1) done
-reads-after c n done ended = by_none (nat_lt 0 n && nat_eq (avail_of c) 0)
-  where
-    by_none : (none : Bool) → let y = if none then (c, Err Again) else read_to c done ended in Reads c y.0 (count_of_answer y.1) done
-    by_none true = record { few = omega arith; next = omega arith; runs = λ is. is }
-    by_none false = reads-to c done ended
+reads-after c n done ended = grind (arith, nat_tests)
 
-module _ {S T : Type 0} (P : snoopport.Ghosts S) (G : gates.Ghosts T) where
-  -- some frames were got, from a first one on, which the ring had
-  record Gets (s t : S × T) (count first done : ℕ) : Type 0 where
-    view_is : P.view t.0 ≡ P.view s.0
-    few : done ≤ count
-    had : (done ≡ 0) ⊎ ((P.view s.0).seen ≤ first + (P.view s.0).geometry.frames)
+-- some frames were got, from a first one on, which the ring had
+record Gets (v : SnoopView) (count first : ℕ) (end : ℕ × Got) (w : SnoopView) : Type 0 where
+  view_is : w ≡ v
+  few : end.0 ≤ count
+  had : end.0 ≢ 0 → v.seen ≤ first + v.geometry.frames
 
-  gets-none : (s t : S × T) (count first done : ℕ) → P.view t.0 ≡ P.view s.0 → done ≡ 0 → Gets s t count first done
-  gets-none s t count first done same none = record { view_is = same; few = omega (arith, none); had = inl none }
+gets-next : (v : SnoopView) (count first : ℕ) → Leads (Gets v count (first + 1)) (gets_frames count (first + 1)) v → (got : Got) → IfWhole got (v.seen ≤ first + v.geometry.frames)
+    → Leads (Gets v (suc count) first) (get_on got (gets_frames count (first + 1))) v
+gets-next v count first more Whole had = Leads-then (Gets v count (first + 1)) (Gets v (suc count) first) (gets_frames count (first + 1)) (λ (end : ℕ × Got). ends (one_more end)) v more
+    (λ end w got. let few = got.few in record { view_is = got.view_is; few = omega (arith, few); had = λ some. had })
+gets-next v count first more (Overtaken channel word) had = record { view_is = refl; few = omega arith; had = λ some. absurd (some refl) }
+gets-next v count first more Stopped had = record { view_is = refl; few = omega arith; had = λ some. absurd (some refl) }
 
-  -- a frame that was got whole isn't more than the ring's length before the position seen
-  had-whole : (s m : S × T) (first : ℕ) → GetsAtSnoop P G s first Whole m → (P.view s.0).seen ≤ first + (P.view s.0).geometry.frames
-  had-whole s m first step = by_order (nat_lt (first + (P.view s.0).geometry.frames) (P.view s.0).seen) refl
-    where
-      by_order : (early : Bool) → nat_lt (first + (P.view s.0).geometry.frames) (P.view s.0).seen ≡ early → (P.view s.0).seen ≤ first + (P.view s.0).geometry.frames
-      by_order true is = absurd (step.1.at_once (grind (arith, nat_tests)))
-      by_order false is = grind (arith, nat_tests)
+gets-frames : (v : SnoopView) (count first : ℕ) → Leads (Gets v count first) (gets_frames count first) v
+unfolding gets_frames
+gets-frames v zero first = record { view_is = refl; few = omega arith; had = λ some. absurd (some refl) }
+gets-frames v (suc count) first = gets-next v count first (gets-frames v count (first + 1))
 
-  gets-frames : (count first : ℕ) (s t : S × T) (done : ℕ) (ended : Got) → TakesAtSnoop P G s (gets_frames count first) t (done, ended) → Gets s t count first done
-  unfolding gets_frames
-  gets-frames zero first s t done ended takes =
-      gets-none s t zero first done (ap (λ (u : S × T). P.view u.0) takes.there) (ap (λ (end : ℕ × Got). end.0) takes.result)
-  gets-frames (suc count) first s t done ended (Whole, m, step, rest) =
-      let parts = Takes-parts (LoadsAtSnoop P G) NoLay (GetsAtSnoop P G) m t (gets_frames count (first + 1)) (λ (end : ℕ × Got). ends (one_more end)) (done, ended) rest in
-      let more = gets-frames count (first + 1) m parts.0 parts.1.0 parts.1.1 parts.2 in
-      let few = more.few in
-      let is : done ≡ parts.1.0 + 1 = ap (λ (end : ℕ × Got). end.0) parts.3.result in
-      record {
-        view_is = ap (λ (u : S × T). P.view u.0) parts.3.there ∙ more.view_is ∙ step.1.view_is;
-        few = omega (arith, few, is);
-        had = inr (had-whole s m first step);
-      }
-  gets-frames (suc count) first s t done ended (Overtaken channel word, m, step, rest) =
-      gets-none s t (suc count) first done (ap (λ (u : S × T). P.view u.0) rest.there ∙ step.1.view_is) (ap (λ (end : ℕ × Got). end.0) rest.result)
-  gets-frames (suc count) first s t done ended (Stopped, m, step, rest) =
-      gets-none s t (suc count) first done (ap (λ (u : S × T). P.view u.0) rest.there ∙ step.1.view_is) (ap (λ (end : ℕ × Got). end.0) rest.result)
+-- ---- calls
 
-  -- the frames of a read, after its load
-  record Transfers (s t : S × T) (c d : CaptureStream) (n got : ℕ) : Type 0 where
-    view_is : P.view t.0 ≡ P.view s.0
-    few : got ≤ taken_of c n
-    had : (got ≡ 0) ⊎ ((P.view s.0).seen ≤ c.next + (P.view s.0).geometry.frames)
-    next : d.next ≡ c.next + got
-    runs : is_running d.status.state ≡ true → is_running c.status.state ≡ true
+module _ (r : CaptureStream) (v : SnoopView) where
+  -- a read made progress by the frames that it counts, of n frames at most
+  record Makes (n : ℕ) (y : Answered ℕ) (w : SnoopView) : Type 0 where
+    progress : Progress (count_of_answer y.1) r y.0 v w
+    few : count_of_answer y.1 ≤ n
 
-  transfers-got : (s t : S × T) (c : CaptureStream) (n : ℕ) (y : Answered ℕ) → TakesAtSnoop P G s (transfers c n) t y → Transfers s t c y.0 n (count_of_answer y.1)
-  unfolding transfers
-  transfers-got s t c n y takes =
-      let parts = Takes-parts (LoadsAtSnoop P G) NoLay (GetsAtSnoop P G) s t (gets_frames (taken_of c n) c.next) (λ (end : ℕ × Got). ends (read_after c n end.0 end.1)) y takes in
-      let gets = gets-frames (taken_of c n) c.next s parts.0 parts.1.0 parts.1.1 parts.2 in
-      let reads : Reads c y.0 (count_of_answer y.1) parts.1.0 =
-      subst (λ (x : Answered ℕ). Reads c x.0 (count_of_answer x.1) parts.1.0) (sym parts.3.result) (reads-after c n parts.1.0 parts.1.1) in
-      let all = gets.few in
-      let few = reads.few in
-      record {
-        view_is = ap (λ (u : S × T). P.view u.0) parts.3.there ∙ gets.view_is;
-        few = omega (arith, all, few);
-        had = elim gets.had [
-          | inl none ↦ inl (omega (arith, none, few))
-          | inr had ↦ inr had
-        ];
-        next = reads.next;
-        runs = reads.runs;
-      }
-
-  -- ---- loads
-
-  -- a call that got no frame went on from one view of its port to another
-  record Went (s t : S × T) (r d : CaptureStream) : Type 0 where
-    ring : (P.view t.0).geometry ≡ (P.view s.0).geometry
-    rising : (P.view s.0).seen ≤ (P.view t.0).seen
-    on : IsOn r d (P.view t.0)
-
-  Went-progress : (s t : S × T) (r d : CaptureStream) → Went s t r d → Progress 0 r d (P.view s.0) (P.view t.0)
-  Went-progress s t r d went = Progress-none r d (P.view s.0) (P.view t.0) went.ring went.rising went.on
-
-  Went-there : (s t u : S × T) (r d e : CaptureStream) → u ≡ t → e ≡ d → Went s t r d → Went s u r e
-  Went-there s t u r d e there same went = subst (λ (v : S × T). Went s v r e) (sym there) (subst (Went s t r) (sym same) went)
-
-  Went-none : (s : S × T) (r : CaptureStream) → Went s s r r
-  Went-none s r = record { ring = refl; rising = omega arith; on = λ is. inr (is, refl) }
-
-  load-none : (s m : S × T) (r d : CaptureStream) → LoadsAtSnoop P G s None m → d.status.state ≡ r.status.state → d.next ≡ r.next → Went s m r d
-  load-none s m r d step same next =
-      let seen : (P.view m.0).seen ≡ (P.view s.0).seen = ap (λ (v : SnoopView). v.seen) step.view_is in
-      record {
-        ring = ap (λ (v : SnoopView). v.geometry) step.view_is;
-        rising = omega (arith, seen);
-        on = λ is. inr (sym (ap is_running same) ∙ is, next);
-      }
-
-  load-some : (s m : S × T) (r d : CaptureStream) (position : Position) → LoadsAtSnoop P G s (Some position) m → IsOn r d (record (P.view s.0) { seen = position.frame }) → Went s m r d
-  load-some s m r d position step on =
-      let seen : (P.view m.0).seen ≡ position.frame = ap (λ (v : SnoopView). v.seen) step.view_is in
-      let newer = step.newer in
-      record {
-        ring = ap (λ (v : SnoopView). v.geometry) step.view_is;
-        rising = omega (arith, seen, newer);
-        on = subst (λ (v : SnoopView). IsOn r d v) (sym step.view_is) on;
-      }
-
-  -- a sync of a reader that runs
-  record Syncs (s t : S × T) (r : CaptureStream) (x : Answered (Unit {0})) : Type 0 where
-    went : Went s t r x.0
-    next : x.0.next ≡ r.next
-    saw : (done : Unit {0}) → x.1 ≡ Ok done → (P.view t.0).seen ≡ unwrap_or x.0.seen 0
-
-  syncs-went : (s t : S × T) (r : CaptureStream) (k : Call) (x : Answered (Unit {0})) → is_running r.status.state ≡ true → TakesAtSnoop P G s (syncs r k) t x → Syncs s t r x
-  unfolding syncs
-  syncs-went s t r k x running (None, m, step, rest) = record {
-    went = Went-there s m t r _ x.0 rest.there (ap (λ (y : Answered (Unit {0})). y.0) rest.result) (load-none s m r _ step refl refl);
-    next = ap (λ (y : Answered (Unit {0})). y.0.next) rest.result;
-    saw = λ done is. absurd (let wrong = sym is ∙ ap (λ (y : Answered (Unit {0})). y.1) rest.result in cc);
-  }
-  syncs-went s t r k x running (Some position, m, step, rest) = record {
-    went = Went-there s m t r _ x.0 rest.there (ap (λ (y : Answered (Unit {0})). y.0) rest.result) (load-some s m r _ position step (λ is. inr (running, refl)));
-    next = ap (λ (y : Answered (Unit {0})). y.0.next) rest.result;
-    saw = λ done is.
-        ap (λ (u : S × T). (P.view u.0).seen) rest.there ∙ ap (λ (v : SnoopView). v.seen) step.view_is
-        ∙ sym (ap (λ (y : Answered (Unit {0})). unwrap_or y.0.seen 0) rest.result);
-  }
-
-  -- a call of start
-  starts-went : (s t : S × T) (r : CaptureStream) (x : Answered (Unit {0})) → TakesAtSnoop P G s (starts r call.Start) t x → Went s t r x.0
-  unfolding starts
-  starts-went s t r x (None, m, step, rest) =
-      Went-there s m t r _ x.0 rest.there (ap (λ (y : Answered (Unit {0})). y.0) rest.result) (load-none s m r _ step refl refl)
-  starts-went s t r x (Some position, m, step, rest) =
-      Went-there s m t r _ x.0 rest.there (ap (λ (y : Answered (Unit {0})). y.0) rest.result) (load-some s m r _ position step (by_gone position.gone))
-    where
-      by_gone : (gone : Bool)
-          → IsOn r (in_state (if gone then seen_at r position else record r { seen = Some position.frame; next = position.frame }) (next_of r.status.state call.Start (facts_with gone None None)).state)
-          (record (P.view s.0) { seen = position.frame })
-      by_gone true = λ is. inr (starts-gone r.status.state is, refl)
-      by_gone false = λ is. inl refl
-
-  -- a read that starts a reader finds no frame at the position that it loaded
-  record Starts (s t : S × T) (r : CaptureStream) (x : Answered (Unit {0})) : Type 0 where
-    went : Went s t r x.0
-    none : (done : Unit {0}) → x.1 ≡ Ok done → (x.0.next ≡ (P.view t.0).seen) × (avail_of x.0 ≡ 0)
-
-  reads-started : (s t : S × T) (r : CaptureStream) (x : Answered (Unit {0})) → TakesAtSnoop P G s (starts r call.Transfer) t x → Starts s t r x
-  unfolding starts
-  reads-started s t r x (None, m, step, rest) = record {
-    went = Went-there s m t r _ x.0 rest.there (ap (λ (y : Answered (Unit {0})). y.0) rest.result) (load-none s m r _ step refl refl);
-    none = λ done is. absurd (let wrong = sym is ∙ ap (λ (y : Answered (Unit {0})). y.1) rest.result in cc);
-  }
-  reads-started s t r x (Some position, m, step, rest) =
-      subst (λ (u : S × T). Starts s u r x) (sym rest.there) (subst (Starts s m r) (sym rest.result) (by_gone position.gone))
-    where
-      seen : (P.view m.0).seen ≡ position.frame
-      seen = ap (λ (v : SnoopView). v.seen) step.view_is
-
-      by_gone : (gone : Bool)
-          → Starts s m r (with_outcome (if gone then seen_at r position else record r { seen = Some position.frame; next = position.frame })
-          (next_of r.status.state call.Transfer (facts_with gone None None)))
-      by_gone true = record {
-        went = load-some s m r _ position step (λ is. inr (reads-gone_state r.status.state is, refl));
-        none = λ done is. absurd (reads-gone r.status.state done is);
-      }
-      by_gone false = record {
-        went = load-some s m r _ position step (λ is. inl refl);
-        none = λ done is. (sym seen, omega arith);
-      }
-
-  -- ---- calls
-
-  -- a call made progress by the frames that it counts, of n frames at most
-  pub record Makes (s t : S × T) (r d : CaptureStream) (n got : ℕ) : Type 0 where
-    pub progress : Progress got r d (P.view s.0) (P.view t.0)
-    pub few : got ≤ n
-
-  Makes-none : (s t : S × T) (r d : CaptureStream) (n got : ℕ) → got ≡ 0 → Went s t r d → Makes s t r d n got
-  Makes-none s t r d n got none went = record {
-    progress = subst (λ (k : ℕ). Progress k r d (P.view s.0) (P.view t.0)) (sym none) (Went-progress s t r d went);
-    few = omega (arith, none);
-  }
+  Makes-none : (n : ℕ) (y : Answered ℕ) (w : SnoopView) → count_of_answer y.1 ≡ 0 → Went r v y.0 w → Makes n y w
+  Makes-none n y w none went = record { progress = subst (λ (k : ℕ). Progress k r y.0 v w) (sym none) (Went-progress r v y.0 w went); few = omega (arith, none) }
 
   -- the frames of a read of a reader that runs
-  transfers-on : (s u t : S × T) (r c : CaptureStream) (n : ℕ) (y : Answered ℕ) → is_running r.status.state ≡ true → Went s u r c → c.next ≡ r.next
-      → (P.view u.0).seen ≡ unwrap_or c.seen 0 → TakesAtSnoop P G u (transfers c n) t y → Makes s t r y.0 n (count_of_answer y.1)
-  transfers-on s u t r c n y running went next saw takes =
-      let did = transfers-got u t c n y takes in
-      let few = did.few in
-      let rising = went.rising in
-      let seen : (P.view t.0).seen ≡ (P.view u.0).seen = ap (λ (v : SnoopView). v.seen) did.view_is in
-      let frames : (P.view u.0).geometry.frames ≡ (P.view s.0).geometry.frames = ap (λ (ring : Geometry). ring.frames) went.ring in
-      let ring : (P.view t.0).geometry ≡ (P.view s.0).geometry = ap (λ (v : SnoopView). v.geometry) did.view_is ∙ went.ring in
-      let after : y.0.next ≡ r.next + count_of_answer y.1 = did.next ∙ ap (λ (k : ℕ). k + count_of_answer y.1) next in
-      elim did.had [
-        | inl none ↦ Makes-none s t r y.0 n (count_of_answer y.1) none (record {
-          ring = ring;
-          rising = omega (arith, rising, seen);
-          on = λ is. inr (running, omega (arith, after, none));
-        })
-        | inr had ↦ by_none (nat_eq (count_of_answer y.1) 0) refl did few rising seen frames ring after had
-      ]
+  transfers-on : (u : SnoopView) (c : CaptureStream) (done : Unit {0}) (n : ℕ) → is_running r.status.state ≡ true → Syncs r v (c, Ok done) u → Leads (Makes n) (transfers c n) u
+  unfolding transfers
+  transfers-on u c done n running did = Leads-then (Gets u (taken_of c n) c.next) (Makes n) (gets_frames (taken_of c n) c.next) (λ (end : ℕ × Got). ends (read_after c n end.0 end.1)) u
+      (gets-frames u (taken_of c n) c.next) by_frames
     where
-      by_none : (none : Bool) → nat_eq (count_of_answer y.1) 0 ≡ none → Transfers u t c y.0 n (count_of_answer y.1) → count_of_answer y.1 ≤ taken_of c n → (P.view s.0).seen ≤ (P.view u.0).seen
-          → (P.view t.0).seen ≡ (P.view u.0).seen → (P.view u.0).geometry.frames ≡ (P.view s.0).geometry.frames → (P.view t.0).geometry ≡ (P.view s.0).geometry
-          → y.0.next ≡ r.next + count_of_answer y.1 → (P.view u.0).seen ≤ c.next + (P.view u.0).geometry.frames → Makes s t r y.0 n (count_of_answer y.1)
-      by_none true is did few rising seen frames ring after had =
-          let none : count_of_answer y.1 ≡ 0 = grind (arith, nat_tests) in
-          Makes-none s t r y.0 n (count_of_answer y.1) none (record {
-            ring = ring;
-            rising = omega (arith, rising, seen);
-            on = λ runs. inr (running, omega (arith, after, none));
-          })
-      by_none false is did few rising seen frames ring after had =
-          let some : 1 ≤ count_of_answer y.1 = grind (arith, nat_tests) in
-          record {
-            progress = Progress-some (count_of_answer y.1) r y.0 (P.view s.0) (P.view t.0) ring (omega (arith, rising, seen)) running after
-                (omega (arith, after, few, some, saw, next, seen)) (omega (arith, rising, had, next, frames));
-            few = omega (arith, few);
-          }
+      by_frames : (end : ℕ × Got) (w : SnoopView) → Gets u (taken_of c n) c.next end w → Makes n (read_after c n end.0 end.1) w
+      by_frames end w are =
+          let y = read_after c n end.0 end.1 in
+          let reads = reads-after c n end.0 end.1 in
+          let all = are.few in
+          let few = reads.few in
+          let rising = did.went.rising in
+          let seen : w.seen ≡ u.seen = ap (λ (x : SnoopView). x.seen) are.view_is in
+          let saw = did.saw done refl in
+          let next = did.next in
+          let after = reads.next in
+          let frames : u.geometry.frames ≡ v.geometry.frames = ap (λ (g : Geometry). g.frames) did.went.ring in
+          let ring : w.geometry ≡ v.geometry = ap (λ (x : SnoopView). x.geometry) are.view_is ∙ did.went.ring in
+          elim (cases_eq (count_of_answer y.1) 0) [
+            | inl none ↦ Makes-none n y w none (record { ring = ring; rising = omega (arith, rising, seen); on = λ is. inr (running, omega (arith, after, next, none)) })
+            | inr some ↦
+                let had = are.had (λ none. some (omega (arith, none, few))) in
+                record {
+                  progress = Progress-some r v (count_of_answer y.1) y.0 w ring (omega (arith, rising, seen)) running (omega (arith, after, next)) (omega (arith, after, few, all, some, saw, seen))
+                      (omega (arith, rising, had, next, frames));
+                  few = omega (arith, few, all);
+                }
+          ]
 
-  reads-on : (s t : S × T) (r : CaptureStream) (n : ℕ) (y : Answered ℕ) → is_running r.status.state ≡ true → TakesAtSnoop P G s (reads_on r n) t y → Makes s t r y.0 n (count_of_answer y.1)
+  reads-on : (n : ℕ) → is_running r.status.state ≡ true → Leads (Makes n) (reads_on r n) v
   unfolding reads_on
-  reads-on s t r n y running takes =
-      let parts = Takes-parts (LoadsAtSnoop P G) NoLay (GetsAtSnoop P G) s t (syncs r call.Transfer) (transfer_on n) y takes in
-      by_sync parts.0 parts.1 (syncs-went s parts.0 r call.Transfer parts.1 running parts.2) parts.3
+  reads-on n running = Leads-then (Syncs r v) (Makes n) (syncs r call.Transfer) (transfer_on n) v (syncs-leads r v (Syncs r v) call.Transfer running (λ x w did. did)) by_sync
     where
-      by_sync : (u : S × T) (x : Answered (Unit {0})) → Syncs s u r x → TakesAtSnoop P G u (transfer_on n x) t y → Makes s t r y.0 n (count_of_answer y.1)
-      by_sync u (c, Ok done) did rest = transfers-on s u t r c n y running did.went did.next (did.saw done refl) rest
-      by_sync u (c, Err e) did rest =
-          Makes-none s t r y.0 n (count_of_answer y.1) (ap (λ (z : Answered ℕ). count_of_answer z.1) rest.result)
-          (Went-there s u t r c y.0 rest.there (ap (λ (z : Answered ℕ). z.0) rest.result) did.went)
+      by_sync : (x : Answered (Unit {0})) (u : SnoopView) → Syncs r v x u → Leads (Makes n) (transfer_on n x) u
+      by_sync (c, Ok done) u did = transfers-on u c done n running did
+      by_sync (c, Err e) u did = Makes-none n (c, Err e) u refl did.went
 
-  reads-first : (s t : S × T) (r : CaptureStream) (n : ℕ) (y : Answered ℕ) → TakesAtSnoop P G s (reads_first r n) t y → Makes s t r y.0 n (count_of_answer y.1)
-  unfolding reads_first
-  reads-first s t r n y takes =
-      let parts = Takes-parts (LoadsAtSnoop P G) NoLay (GetsAtSnoop P G) s t (starts r call.Transfer) (transfer_on n) y takes in
-      by_start parts.0 parts.1 (reads-started s parts.0 r parts.1 parts.2) parts.3
+  reads-first : (n : ℕ) → Leads (Makes n) (reads_first r n) v
+  unfolding reads_first transfers
+  reads-first n = Leads-then (Starts r v) (Makes n) (starts r call.Transfer) (transfer_on n) v (reads-started r v) by_start
     where
-      by_start : (u : S × T) (x : Answered (Unit {0})) → Starts s u r x → TakesAtSnoop P G u (transfer_on n x) t y → Makes s t r y.0 n (count_of_answer y.1)
-      by_start u (c, Ok done) did rest =
-          let got = transfers-got u t c n y rest in
-          let few = got.few in
+      by_frames : (u : SnoopView) (c : CaptureStream) (done : Unit {0}) → Starts r v (c, Ok done) u → (end : ℕ × Got) (w : SnoopView) → Gets u (taken_of c n) c.next end w → Makes n (read_after c n end.0 end.1) w
+      by_frames u c done did end w are =
+          let y = read_after c n end.0 end.1 in
+          let reads = reads-after c n end.0 end.1 in
+          let all = are.few in
+          let few = reads.few in
+          let after = reads.next in
           let at = did.none done refl in
           let here = at.0 in
           let empty = at.1 in
           let rising = did.went.rising in
-          let next = got.next in
-          let seen : (P.view t.0).seen ≡ (P.view u.0).seen = ap (λ (v : SnoopView). v.seen) got.view_is in
-          let none : count_of_answer y.1 ≡ 0 = omega (arith, few, empty) in
-          Makes-none s t r y.0 n (count_of_answer y.1) none (record {
-            ring = ap (λ (v : SnoopView). v.geometry) got.view_is ∙ did.went.ring;
+          let seen : w.seen ≡ u.seen = ap (λ (x : SnoopView). x.seen) are.view_is in
+          let none : count_of_answer y.1 ≡ 0 = omega (arith, few, all, empty) in
+          Makes-none n y w none (record {
+            ring = ap (λ (x : SnoopView). x.geometry) are.view_is ∙ did.went.ring;
             rising = omega (arith, rising, seen);
-            on = λ is. inl (omega (arith, next, none, here, seen));
+            on = λ is. inl (omega (arith, after, none, here, seen));
           })
-      by_start u (c, Err e) did rest =
-          Makes-none s t r y.0 n (count_of_answer y.1) (ap (λ (z : Answered ℕ). count_of_answer z.1) rest.result)
-          (Went-there s u t r c y.0 rest.there (ap (λ (z : Answered ℕ). z.0) rest.result) did.went)
+
+      by_start : (x : Answered (Unit {0})) (u : SnoopView) → Starts r v x u → Leads (Makes n) (transfer_on n x) u
+      by_start (c, Ok done) u did = Leads-then (Gets u (taken_of c n) c.next) (Makes n) (gets_frames (taken_of c n) c.next) (λ (end : ℕ × Got). ends (read_after c n end.0 end.1)) u
+          (gets-frames u (taken_of c n) c.next) (by_frames u c done did)
+      by_start (c, Err e) u did = Makes-none n (c, Err e) u refl did.went
 
   counted-waits : (n : ℕ) → count_of_answer (waits n) ≡ 0
-  counted-waits n = by_none (nat_eq n 0)
+  counted-waits n = grind (arith, nat_tests)
+
+  reads-course : (n : ℕ) → Leads (Makes n) (read_course r n) v
+  reads-course n = by_running (is_running r.status.state) (nat_le r.setup.params.start_threshold n) refl
     where
-      by_none : (none : Bool) → count_of_answer (let x : Result ℕ PcmError = if none then Ok 0 else Err Again in x) ≡ 0
-      by_none true = refl
-      by_none false = refl
-
-  reads-course : (s t : S × T) (r : CaptureStream) (n : ℕ) (y : Answered ℕ) → TakesAtSnoop P G s (read_course r n) t y → Makes s t r y.0 n (count_of_answer y.1)
-  reads-course s t r n y takes = by_running (is_running r.status.state) refl takes
-    where
-      by_start : (enough : Bool) → TakesAtSnoop P G s (if enough then reads_first r n else ends (r, waits n)) t y → Makes s t r y.0 n (count_of_answer y.1)
-      by_start true takes = reads-first s t r n y takes
-      by_start false takes =
-          Makes-none s t r y.0 n (count_of_answer y.1) (ap (λ (z : Answered ℕ). count_of_answer z.1) takes.result ∙ counted-waits n)
-          (Went-there s s t r r y.0 takes.there (ap (λ (z : Answered ℕ). z.0) takes.result) (Went-none s r))
-
-      by_running : (running : Bool) → is_running r.status.state ≡ running
-          → TakesAtSnoop P G s (if running then reads_on r n else (if nat_le r.setup.params.start_threshold n then reads_first r n else ends (r, waits n))) t y
-          → Makes s t r y.0 n (count_of_answer y.1)
-      by_running true is takes = reads-on s t r n y is takes
-      by_running false is takes = by_start (nat_le r.setup.params.start_threshold n) takes
-
-  -- the calls that get no frame
-  syncs-course : {X : Type 0} (s t : S × T) (r : CaptureStream) (k : Call) (m : Course (Answered X)) (x : X) (y : Answered X)
-      → ((u : S × T) (z : Answered X) → TakesAtSnoop P G s m u z → is_running r.status.state ≡ true → Went s u r z.0)
-      → TakesAtSnoop P G s (if is_running r.status.state then m else ends (r, Ok x)) t y → Went s t r y.0
-  syncs-course s t r k m x y syncs takes = by_running (is_running r.status.state) refl takes
-    where
-      by_running : (running : Bool) → is_running r.status.state ≡ running → TakesAtSnoop P G s (if running then m else ends (r, Ok x)) t y → Went s t r y.0
-      by_running true is takes = syncs t y takes is
-      by_running false is takes = Went-there s s t r r y.0 takes.there (ap (λ (z : Answered _). z.0) takes.result) (Went-none s r)
-
-  counts-went : (s t : S × T) (r : CaptureStream) (y : Answered ℕ) → is_running r.status.state ≡ true → TakesAtSnoop P G s (counts (syncs r call.Sync)) t y → Went s t r y.0
-  unfolding counts
-  counts-went s t r y running takes =
-      let parts = Takes-parts (LoadsAtSnoop P G) NoLay (GetsAtSnoop P G) s t (syncs r call.Sync) (λ (done : Answered (Unit {0})). ends (with_avail done)) y takes in
-      by_answer parts.0 parts.1 (syncs-went s parts.0 r call.Sync parts.1 running parts.2).went parts.3
-    where
-      by_answer : (u : S × T) (x : Answered (Unit {0})) → Went s u r x.0 → TakesAtSnoop P G u (ends (with_avail x)) t y → Went s t r y.0
-      by_answer u (c, Ok done) went rest = Went-there s u t r c y.0 rest.there (ap (λ (z : Answered ℕ). z.0) rest.result) went
-      by_answer u (c, Err e) went rest = Went-there s u t r c y.0 rest.there (ap (λ (z : Answered ℕ). z.0) rest.result) went
-
-  -- a reader that ends in a state in which it doesn't run
-  ends-still : (s t : S × T) (r : CaptureStream) (still : State) (y : Answered (Unit {0})) → is_running still ≡ false → TakesAtSnoop P G s (ends (in_state r still, Ok tt)) t y → Went s t r y.0
-  ends-still s t r still y rests takes =
-      Went-there s s t r (in_state r still) y.0 takes.there (ap (λ (z : Answered (Unit {0})). z.0) takes.result)
-      (record { ring = refl; rising = omega arith; on = λ is. absurd (false≢true (sym rests ∙ is)) })
+      by_running : (running enough : Bool) → is_running r.status.state ≡ running
+          → Leads (Makes n) (if running then reads_on r n else (if enough then reads_first r n else ends (r, waits n))) v
+      by_running true enough is = reads-on n is
+      by_running false true is = reads-first n
+      by_running false false is = Makes-none n (r, waits n) v (counted-waits n) (Went-none r v)
 
   -- a call that is refused, or does what it is for
-  admitted-went : {X : Type 0} (s t : S × T) (r : CaptureStream) (refusal : Option PcmError) (m : Course (Answered X)) (y : Answered X)
-      → (TakesAtSnoop P G s m t y → Went s t r y.0) → TakesAtSnoop P G s (admitted_by refusal r m) t y → Went s t r y.0
-  admitted-went s t r None m y does takes = does takes
-  admitted-went s t r (Some e) m y does takes = Went-there s s t r r y.0 takes.there (ap (λ (z : Answered _). z.0) takes.result) (Went-none s r)
+  admitted-leads : {X : Type 0} (Q : Answered X → SnoopView → Type 0) (refusal : Option PcmError) (m : Course (Answered X)) → ((e : PcmError) → Q (r, Err e) v) → Leads Q m v
+      → Leads Q (admitted_by refusal r m) v
+  admitted-leads Q None m refused leads = leads
+  admitted-leads Q (Some e) m refused leads = refused e
 
-  -- with the answer of its row
-  answered-went : {X : Type 0} (answer_of : Result X PcmError → Answer) (s t : S × T) (r d : CaptureStream) (m : Course (Answered X)) (answer : Answer)
-      → ((u : S × T) (y : Answered X) → TakesAtSnoop P G s m u y → Went s u r y.0) → TakesAtSnoop P G s (call_answer answer_of m) t (d, answer) → Went s t r d
-  answered-went answer_of s t r d m answer does takes =
-      let parts = Takes-parts (LoadsAtSnoop P G) NoLay (GetsAtSnoop P G) s t m (λ (done : Answered _). ends (done.0, answer_of done.1)) (d, answer) takes in
-      Went-there s parts.0 t r parts.1.0 d parts.3.there (ap (λ (z : CaptureStream × Answer). z.0) parts.3.result) (does parts.0 parts.1 parts.2)
-
-  reads-call : (s t : S × T) (r d : CaptureStream) (n : ℕ) (answer : Answer) → TakesAtSnoop P G s (call_of r (op.Read n)) t (d, answer) → Makes s t r d n (got_by (op.Read n) answer)
-  reads-call s t r d n answer takes =
-      let m : Course (Answered ℕ) = admitted_by (refusal_of Capture r.status call.Transfer) r (read_course r n) in
-      let parts = Takes-parts (LoadsAtSnoop P G) NoLay (GetsAtSnoop P G) s t m (λ (done : Answered ℕ). ends (done.0, count_answer done.1)) (d, answer) takes in
-      subst (λ (u : S × T). Makes s u r d n (got_by (op.Read n) answer)) (sym parts.3.there)
-      (subst (λ (z : CaptureStream × Answer). Makes s parts.0 r z.0 n (got_by (op.Read n) z.1)) (sym parts.3.result)
-      (by_answer parts.0 parts.1 (by_refusal (refusal_of Capture r.status call.Transfer) parts.0 parts.1 parts.2)))
+  -- a sync, or what goes on after one, of a reader that runs
+  syncs-course : {X : Type 0} (m : Course (Answered X)) (x : X) → (is_running r.status.state ≡ true → Leads (λ (y : Answered X). Went r v y.0) m v)
+      → Leads (λ (y : Answered X). Went r v y.0) (if is_running r.status.state then m else ends (r, Ok x)) v
+  syncs-course {X = X} m x leads = by_running (is_running r.status.state) refl
     where
-      by_refusal : (refusal : Option PcmError) (u : S × T) (y : Answered ℕ) → TakesAtSnoop P G s (admitted_by refusal r (read_course r n)) u y → Makes s u r y.0 n (count_of_answer y.1)
-      by_refusal None u y takes = reads-course s u r n y takes
-      by_refusal (Some e) u y takes =
-          Makes-none s u r y.0 n (count_of_answer y.1) (ap (λ (z : Answered ℕ). count_of_answer z.1) takes.result)
-          (Went-there s s u r r y.0 takes.there (ap (λ (z : Answered ℕ). z.0) takes.result) (Went-none s r))
+      by_running : (running : Bool) → is_running r.status.state ≡ running → Leads (λ (y : Answered X). Went r v y.0) (if running then m else ends (r, Ok x)) v
+      by_running true is = leads is
+      by_running false is = Went-none r v
 
-      by_answer : (u : S × T) (y : Answered ℕ) → Makes s u r y.0 n (count_of_answer y.1) → Makes s u r y.0 n (got_by (op.Read n) (count_answer y.1))
-      by_answer u (c, Ok count) makes = makes
-      by_answer u (c, Err e) makes = makes
+  counts-leads : is_running r.status.state ≡ true → Leads (λ (y : Answered ℕ). Went r v y.0) (counts (syncs r call.Sync)) v
+  unfolding counts
+  counts-leads running = Leads-then (Syncs r v) (λ (y : Answered ℕ). Went r v y.0) (syncs r call.Sync) (λ (done : Answered (Unit {0})). ends (with_avail done)) v
+      (syncs-leads r v (Syncs r v) call.Sync running (λ x w did. did)) by_answer
+    where
+      by_answer : (x : Answered (Unit {0})) (w : SnoopView) → Syncs r v x w → Went r v (with_avail x).0 w
+      by_answer (c, Ok done) w did = did.went
+      by_answer (c, Err e) w did = did.went
 
-  -- The call that a line names makes progress by the frames that its row counts, which are no more than it asks for.
-  pub call-makes : (s t : S × T) (r d : CaptureStream) (asked : Op) (answer : Answer) → TakesAtSnoop P G s (call_of r asked) t (d, answer) → Makes s t r d (asked_by asked) (got_by asked answer)
-  call-makes s t r d (op.Read n) answer takes = reads-call s t r d n answer takes
-  call-makes s t r d op.Start answer takes =
-      Makes-none s t r d 0 0 refl (answered-went done_answer s t r d _ answer
-      (λ u y taken. admitted-went s u r (refusal_of Capture r.status call.Start) (starts r call.Start) y (starts-went s u r y) taken) takes)
-  call-makes s t r d op.Sync answer takes =
-      Makes-none s t r d 0 0 refl (answered-went done_answer s t r d _ answer
-      (λ u y taken. admitted-went s u r (refusal_of Capture r.status call.Sync) _ y
-      (λ course. syncs-course s u r call.Sync (syncs r call.Sync) tt y (λ v z done running. (syncs-went s v r call.Sync z running done).went) course) taken) takes)
-  call-makes s t r d op.Avail answer takes =
-      Makes-none s t r d 0 0 refl (answered-went count_answer s t r d _ answer
-      (λ u y taken. admitted-went s u r (refusal_of Capture r.status call.Sync) _ y
-      (λ course. syncs-course s u r call.Sync (counts (syncs r call.Sync)) 0 y (λ v z done running. counts-went s v r z running done) course) taken) takes)
-  call-makes s t r d op.Drop answer takes =
-      Makes-none s t r d 0 0 refl (answered-went done_answer s t r d _ answer
-      (λ u y taken. admitted-went s u r (refusal_of Capture r.status call.Drop) _ y (ends-still s u r state.Setup y refl) taken) takes)
-  call-makes s t r d op.Prepare answer takes =
-      Makes-none s t r d 0 0 refl (answered-went done_answer s t r d _ answer
-      (λ u y taken. admitted-went s u r (refusal_of Capture r.status call.Prepare) _ y (ends-still s u r state.Prepared y refl) taken) takes)
-  call-makes s t r d other answer takes =
-      Makes-none s t r d 0 0 refl (Went-there s s t r r d takes.there (ap (λ (z : CaptureStream × Answer). z.0) takes.result) (Went-none s r))
+  -- a line made progress by the frames that its row counts, which are no more than it asks for
+  pub record Made (asked : Op) (z : CaptureStream × Answer) (w : SnoopView) : Type 0 where
+    pub progress : Progress (got_by asked z.1) r z.0 v w
+    pub few : got_by asked z.1 ≤ asked_by asked
+
+  -- of one that got none
+  Made-none : {X : Type 0} (asked : Op) (answer : Result X PcmError → Answer) (what : Call) (m : Course (Answered X)) → ((a : Answer) → got_by asked a ≡ 0)
+      → Leads (λ (y : Answered X). Went r v y.0) m v → Leads (Made asked) (call_answer answer (admitted_by (refusal_of Capture r.status what) r m)) v
+  Made-none {X = X} asked answer what m none leads =
+      Leads-then (λ (y : Answered X). Went r v y.0) (Made asked) (admitted_by (refusal_of Capture r.status what) r m) (λ (done : Answered X). ends (done.0, answer done.1)) v
+      (admitted-leads (λ (y : Answered X). Went r v y.0) (refusal_of Capture r.status what) m (λ e. Went-none r v) leads)
+      (λ y w went. record {
+        progress = subst (λ (k : ℕ). Progress k r y.0 v w) (sym (none (answer y.1))) (Went-progress r v y.0 w went);
+        few = (let got = none (answer y.1) in omega (arith, got));
+      })
+
+  call-leads : (asked : Op) → Leads (Made asked) (call_of r asked) v
+  call-leads (op.Read n) =
+      Leads-then (Makes n) (Made (op.Read n)) (admitted_by (refusal_of Capture r.status call.Transfer) r (read_course r n)) (λ (done : Answered ℕ). ends (done.0, count_answer done.1)) v
+      (admitted-leads (Makes n) (refusal_of Capture r.status call.Transfer) (read_course r n) (λ e. Makes-none n (r, Err e) v refl (Went-none r v)) (reads-course n)) by_answer
+    where
+      by_answer : (y : Answered ℕ) (w : SnoopView) → Makes n y w → Made (op.Read n) (y.0, count_answer y.1) w
+      by_answer (c, Ok count) w makes = record { progress = makes.progress; few = makes.few }
+      by_answer (c, Err e) w makes = record { progress = makes.progress; few = makes.few }
+  call-leads op.Start = Made-none op.Start done_answer call.Start (starts r call.Start) (λ a. refl) (starts-leads r v)
+  call-leads op.Sync = Made-none op.Sync done_answer call.Sync _ (λ a. refl)
+      (syncs-course (syncs r call.Sync) tt (λ running. syncs-leads r v (λ (y : Answered (Unit {0})). Went r v y.0) call.Sync running (λ x w did. did.went)))
+  call-leads op.Avail = Made-none op.Avail count_answer call.Sync _ (λ a. refl) (syncs-course (counts (syncs r call.Sync)) 0 counts-leads)
+  call-leads op.Drop = Made-none op.Drop done_answer call.Drop (ends (in_state r state.Setup, Ok tt)) (λ a. refl) (record { ring = refl; rising = omega arith; on = λ is. absurd (false≢true is) })
+  call-leads op.Prepare = Made-none op.Prepare done_answer call.Prepare (ends (in_state r state.Prepared, Ok tt)) (λ a. refl)
+      (record { ring = refl; rising = omega arith; on = λ is. absurd (false≢true is) })
+  call-leads other = record { progress = Went-progress r v r v (Went-none r v); few = omega arith }
+
+pub Progress-same : (r : CaptureStream) (v : SnoopView) → Progress 0 r r v v
+Progress-same r v = Went-progress r v r v (Went-none r v)
+
+-- The call that a line names makes progress by the frames that its row counts, which are no more than it asks for.
+pub call-makes : {S T : Type 0} (P : snoopport.Ghosts S) (G : gates.Ghosts T) (s t : S × T) (r d : CaptureStream) (asked : Op) (answer : Answer)
+    → TakesAtSnoop P G s (call_of r asked) t (d, answer) → Made r (P.view s.0) asked (d, answer) (P.view t.0)
+call-makes P G s t r d asked answer takes = Leads-taken P G (Made r (P.view s.0) asked) s t (call_of r asked) (d, answer) (call-leads r (P.view s.0) asked) takes

@@ -1,14 +1,16 @@
 -- The call that a line of a reader names, from what the reader's call says.
 use Rattle.lab_readers.specs.Prelude.{ap, append_assoc, arith, drop, Err, length, List, None, refl, Result, slice_index_or, subst, sym, take, zero-mul, ℕ, []}
-use Rattle.lab_readers.specs.Prelude.{◌*◌, ◌++◌, ◌+◌, ◌∙◌, ◌∷◌, ◌≡◌, ◌≤◌, mul-div_cancel, mul-mod_left, suc-mul, take-append-add, take-append_seam, append-nil}
-use Rattle.lab_readers.specs.Prelude.{length-append, length-drop, length-map, length-replicate, length-take, take_at, All-contains_itself, All-nil}
-use Rattle.lab_readers.specs.Prelude.{range_with_len, option_to_list, Contains, min, Ok, Option, pos, replicate, Some, ℤ, ◌%◌, ◌-◌, ◌/◌, PcmError, BadState}
-use Rattle.lab_readers.specs.Prelude.{Composes, Call, State, Capture, refusal_of, Frame, frame_if, numbered_frame, GetsAtSnoop, LoadsAtSnoop, NoLay}
-use Rattle.lab_readers.specs.Prelude.{TakesAtSnoop, Course, ends, Takes-keeps_getting, Takes-map, CaptureStream, Answered, in_state, admitted_by, if_admitted}
-use Rattle.lab_readers.specs.Prelude.{read_course, most_read, read_course-fewer, bound_samples, GivesFrames, through_all, CanRead, CanUse, frames_in, Op}
-use Rattle.lab_readers.specs.Prelude.{Answer, Count, Failed, count_answer, done_answer, call_answer, call_of, frames_by, got_by, AreSamples, HasLoaded, HasRead}
-use Rattle.lab_readers.specs.Prelude.{HasReaderCalled, HasSameSetup}
+use Rattle.lab_readers.specs.Prelude.{◌*◌, ◌++◌, ◌+◌, ◌∙◌, ◌∷◌, ◌≡◌, ◌≤◌, mul-div_cancel, suc-mul, nat_tests, append-nil, length-append, length-drop}
+use Rattle.lab_readers.specs.Prelude.{length-map, length-replicate, length-take, take_at, All-contains_itself, All-nil, range_with_len, option_to_list}
+use Rattle.lab_readers.specs.Prelude.{Contains, min, Ok, Option, pos, replicate, Some, ℤ, ◌-◌, ◌/◌, PcmError, BadState, Composes, Call, Capture, refusal_of}
+use Rattle.lab_readers.specs.Prelude.{Frame, frame_if, numbered_frame, GetsAtSnoop, LoadsAtSnoop, NoLay, TakesAtSnoop, Course, ends, Takes-keeps_getting}
+use Rattle.lab_readers.specs.Prelude.{Takes-map, CaptureStream, Answered, in_state, if_admitted, read_course, most_read, read_course-fewer, bound_samples}
+use Rattle.lab_readers.specs.Prelude.{GivesFrames, through_all, CanRead, CanUse, frames_in, Op, Answer, Failed, count_answer, done_answer, call_answer, call_of}
+use Rattle.lab_readers.specs.Prelude.{frames_by, got_by, AreSamples, HasLoaded, HasRead, HasReaderCalled, HasSameSetup}
+use Rattle.std.proofs.Math.Seq.{take-append-add, take-append_seam}
 use Rattle.std.specs.Result.{result_unwrap_or}
+use Rattle.pcm_states.specs.declared.states.State.{State}
+use Rattle.dsnoop_client.specs.CallRelations.{Calls}
 use Rattle.dsnoop_client.specs.Port.{Keeps}
 use Rattle.mix_core.specs.declared.gate.Gate as gates
 use Rattle.snoop_core.specs.declared.port.SnoopPort as snoopport
@@ -36,31 +38,19 @@ frames-none other e r = refl
 
 -- what a line counts are its frames, which end before the reader's next one
 pub frames_by-count : (asked : Op) (answer : Answer) (r : CaptureStream) → frames_by asked answer r ≡ range_with_len (r.next - got_by asked answer) (got_by asked answer)
-frames_by-count (op.Read n) (Count count) r = refl
-frames_by-count (op.Read n) other r = refl
-frames_by-count asked answer r = refl
+frames_by-count asked answer r = grind (arith, nat_tests)
 
 -- no call has another name
 pub call-none : (r : CaptureStream) (asked : Op) → ((n : ℕ) → asked ≡ op.Read n → ⊥) → (asked ≡ op.Start → ⊥) → (asked ≡ op.Sync → ⊥) → (asked ≡ op.Avail → ⊥)
     → (asked ≡ op.Drop → ⊥) → (asked ≡ op.Prepare → ⊥) → (asked ≡ op.Pause → ⊥) → call_of r asked ≡ ends (r, Failed BadState)
-call-none r (op.Read n) read start sync avail drop prepare pause = absurd (read n refl)
-call-none r op.Start read start sync avail drop prepare pause = absurd (start refl)
-call-none r op.Sync read start sync avail drop prepare pause = absurd (sync refl)
-call-none r op.Avail read start sync avail drop prepare pause = absurd (avail refl)
-call-none r op.Drop read start sync avail drop prepare pause = absurd (drop refl)
-call-none r op.Prepare read start sync avail drop prepare pause = absurd (prepare refl)
-call-none r op.Pause read start sync avail drop prepare pause = absurd (pause refl)
-call-none r other read start sync avail drop prepare pause = refl
+call-none r other read start sync avail drop prepare pause = grind (arith, nat_tests)
 
 -- room for whole frames
 frames_in-whole : (r : CaptureStream) (room : List ℤ) (n : ℕ) → 1 ≤ length r.setup.bindings → length room ≡ n * length r.setup.bindings → frames_in r room ≡ n
 frames_in-whole r room n some size = ap (λ (k : ℕ). k / length r.setup.bindings) size ∙ mul-div_cancel n (omega (arith, some))
 
 pub can-read : (r : CaptureStream) (room : List ℤ) (n : ℕ) → 1 ≤ length r.setup.bindings → n ≤ 4194304 → length room ≡ n * length r.setup.bindings → CanRead r room
-can-read r room n some few size = λ configured. record {
-  whole = ap (λ (k : ℕ). k % length r.setup.bindings) size ∙ mul-mod_left n (length r.setup.bindings);
-  few = subst (λ (k : ℕ). k ≤ 4194304) (sym (frames_in-whole r room n some size)) few;
-}
+can-read r room n some few size = grind (arith, nat_tests)
 
 -- the room for so many samples that were put after others
 pub length-room : (old xs : List ℤ) (before count : ℕ) → xs ≡ old ++ replicate count (pos 0) → length old ≡ before → length (take (length xs - before) (drop before xs)) ≡ count
@@ -139,63 +129,52 @@ module _ {S T : Type 0} (P : snoopport.Ghosts S) (G : gates.Ghosts T) (composes 
       s t m y takes
 
   -- a call that reads no frame
-  pub called-reading_none : {X : Type 0} (answer_of : Result X PcmError → Answer) (s t : S × T) (r d : CaptureStream) (before : List ℤ) (asked : Op)
-      (m : Course (Answered X)) (result : Result X PcmError) (answer : Answer) → call_of r asked ≡ call_answer answer_of m → TakesAtSnoop P G s m t (d, result)
-      → answer ≡ answer_of result → CanUse d (P.view t.0) → HasSameSetup r d → got_by asked answer ≡ 0 → frames_by asked answer d ≡ []
+  called-reading_none : {X : Type 0} (answer_of : Result X PcmError → Answer) (s t : S × T) (r d : CaptureStream) (before : List ℤ) (asked line : Op)
+      (m : Course (Answered X)) (result : Result X PcmError) (answer : Answer) → asked ≡ line → call_of r line ≡ call_answer answer_of m → TakesAtSnoop P G s m t (d, result)
+      → answer ≡ answer_of result → CanUse d (P.view t.0) → HasSameSetup r d → got_by line answer ≡ 0 → frames_by line answer d ≡ []
       → HasReaderCalled P G s t r d before before asked answer
-  called-reading_none answer_of s t r d before asked m result answer call takes is usable same none no_frames =
+  called-reading_none answer_of s t r d before asked line m result answer named course_is takes is usable same none no_frames =
       let got = got-some s t m (d, result) takes in
-      record {
-        takes = subst (λ (n : Course (CaptureStream × Answer)). TakesAtSnoop P G s n t (d, answer)) (sym call)
+      rw named (record {
+        takes = subst (λ (n : Course (CaptureStream × Answer)). TakesAtSnoop P G s n t (d, answer)) (sym course_is)
             (Takes-map (LoadsAtSnoop P G) NoLay (GetsAtSnoop P G) s t m (λ (done : Answered _). (done.0, answer_of done.1)) (d, result) (d, answer) takes
             (ap (λ (a : Answer). (d, a)) (sym is)));
-        has_read = HasRead-none P s.0 t.0 r d before asked answer got.0 got.1 usable same none no_frames;
-      }
+        has_read = HasRead-none P s.0 t.0 r d before line answer got.0 got.1 usable same none no_frames;
+      })
 
   -- a call that loads the position and no frame
-  pub called-keeps : {X : Type 0} (answer_of : Result X PcmError → Answer) (s t : S × T) (r d : CaptureStream) (before : List ℤ) (asked : Op)
-      (m : Course (Answered X)) (result : Result X PcmError) (answer : Answer) → call_of r asked ≡ call_answer answer_of m → TakesAtSnoop P G s m t (d, result)
-      → Keeps P G s t r d result → answer ≡ answer_of result → got_by asked answer ≡ 0 → frames_by asked answer d ≡ []
-      → HasReaderCalled P G s t r d before before asked answer
-  called-keeps answer_of s t r d before asked m result answer call takes keeps is none no_frames =
-      called-reading_none answer_of s t r d before asked m result answer call takes is keeps.port
-      (record { same_ring = keeps.same_ring; same_setup = keeps.same_setup }) none no_frames
+  pub called-keeps : {X : Type 0} {result : Result X PcmError} {what : Call} {course : Course (Answered X)} {Cause : Type 0} (answer_of : Result X PcmError → Answer) (s t : S × T) (r d : CaptureStream)
+      (before : List ℤ) (asked line : Op) (answer : Answer) → asked ≡ line → Calls P G s t r d result what course Cause → call_of r line ≡ call_answer answer_of (if_admitted r what course)
+      → answer ≡ answer_of result → got_by line answer ≡ 0 → frames_by line answer d ≡ [] → HasReaderCalled P G s t r d before before asked answer
+  called-keeps {result = result} {what = what} {course = course} answer_of s t r d before asked line answer named calls course_is is =
+      called-reading_none answer_of s t r d before asked line (if_admitted r what course) result answer named course_is calls.takes is calls.keeps.port
+      (record { same_ring = calls.keeps.same_ring; same_setup = calls.keeps.same_setup })
 
   -- a call that only changes the reader's state
-  admitted-taken : (s : S × T) (r : CaptureStream) (what : Call) (end : Answered (Unit {0})) (d : CaptureStream) (result : Result (Unit {0}) PcmError)
-      → ((e : PcmError) → refusal_of Capture r.status what ≡ Some e → (result ≡ Err e) × (d ≡ r)) → (refusal_of Capture r.status what ≡ None → (result ≡ end.1) × (d ≡ end.0))
-      → TakesAtSnoop P G s (if_admitted r what (ends end)) s (d, result)
-  admitted-taken s r what end d result refused admits = by_refusal (refusal_of Capture r.status what) refl
-    where
-      by_refusal : (refusal : Option PcmError) → refusal_of Capture r.status what ≡ refusal → TakesAtSnoop P G s (admitted_by refusal r (ends end)) s (d, result)
-      by_refusal None found = let now = admits found in record { there = refl; result = λ i. (now.1 i, now.0 i) }
-      by_refusal (Some e) found = let now = refused e found in record { there = refl; result = λ i. (now.1 i, now.0 i) }
-
-  pub called-state : (s : S × T) (r d : CaptureStream) (before : List ℤ) (asked : Op) (what : Call) (state : State) (result : Result (Unit {0}) PcmError) (answer : Answer)
-      → call_of r asked ≡ call_answer done_answer (if_admitted r what (ends (in_state r state, Ok tt)))
+  pub called-state : (s : S × T) (r d : CaptureStream) (before : List ℤ) (asked line : Op) (what : Call) (state : State) (result : Result (Unit {0}) PcmError) (answer : Answer)
+      → asked ≡ line → call_of r line ≡ call_answer done_answer (if_admitted r what (ends (in_state r state, Ok tt)))
       → ((e : PcmError) → refusal_of Capture r.status what ≡ Some e → (result ≡ Err e) × (d ≡ r))
       → (refusal_of Capture r.status what ≡ None → (result ≡ Ok tt) × (d ≡ in_state r state))
-      → answer ≡ done_answer result → CanUse r (P.view s.0) → got_by asked answer ≡ 0 → frames_by asked answer d ≡ []
+      → answer ≡ done_answer result → CanUse r (P.view s.0) → got_by line answer ≡ 0 → frames_by line answer d ≡ []
       → HasReaderCalled P G s s r d before before asked answer
-  called-state s r d before asked what state result answer call refused admits is usable none no_frames =
-      called-reading_none done_answer s s r d before asked _ result answer call (admitted-taken s r what (in_state r state, Ok tt) d result refused admits) is
-      kept.0 kept.1 none no_frames
+  called-state s r d before asked line what state result answer named course_is refused admits is usable none no_frames = by_refusal (refusal_of Capture r.status what) refl
     where
-      changed : (x : CaptureStream) → d ≡ x → CanUse x (P.view s.0) → HasSameSetup r x → CanUse d (P.view s.0) × HasSameSetup r d
-      changed x d_is usable same = (subst (λ (y : CaptureStream). CanUse y (P.view s.0)) (sym d_is) usable, subst (HasSameSetup r) (sym d_is) same)
+      called : (x : CaptureStream) (y : Result (Unit {0}) PcmError) → (result ≡ y) × (d ≡ x) → TakesAtSnoop P G s (if_admitted r what (ends (in_state r state, Ok tt))) s (x, y)
+          → CanUse x (P.view s.0) → HasSameSetup r x → HasReaderCalled P G s s r d before before asked answer
+      called x y now takes usable same =
+          called-reading_none done_answer s s r d before asked line (if_admitted r what (ends (in_state r state, Ok tt))) result answer named course_is (rw (now.1, now.0) takes) is
+          (rw now.1 usable) (rw now.1 same) none no_frames
 
-      by_refusal : (refusal : Option PcmError) → refusal_of Capture r.status what ≡ refusal → CanUse d (P.view s.0) × HasSameSetup r d
-      by_refusal None found = changed (in_state r state) (admits found).1 (record { same_geometry = usable.same_geometry; newer = usable.newer }) (record { same_ring = refl; same_setup = refl })
-      by_refusal (Some e) found = changed r (refused e found).1 usable (record { same_ring = refl; same_setup = refl })
-
-      kept : CanUse d (P.view s.0) × HasSameSetup r d
-      kept = by_refusal (refusal_of Capture r.status what) refl
+      by_refusal : (refusal : Option PcmError) → refusal_of Capture r.status what ≡ refusal → HasReaderCalled P G s s r d before before asked answer
+      by_refusal None found = called (in_state r state) (Ok tt) (admits found) (rw found (record { there = refl; result = refl }))
+          (record { same_geometry = usable.same_geometry; newer = usable.newer }) (record { same_ring = refl; same_setup = refl })
+      by_refusal (Some e) found = called r (Err e) (refused e found) (rw found (record { there = refl; result = refl })) usable (record { same_ring = refl; same_setup = refl })
 
   -- a line that is refused at once
   pub called-refused : (s : S × T) (r : CaptureStream) (before : List ℤ) (asked : Op) (e : PcmError) → call_of r asked ≡ ends (r, Failed e) → CanUse r (P.view s.0)
       → HasReaderCalled P G s s r r before before asked (Failed e)
-  called-refused s r before asked e call usable = record {
-    takes = subst (λ (n : Course (CaptureStream × Answer)). TakesAtSnoop P G s n s (r, Failed e)) (sym call) (record { there = refl; result = refl });
+  called-refused s r before asked e course_is usable = record {
+    takes = subst (λ (n : Course (CaptureStream × Answer)). TakesAtSnoop P G s n s (r, Failed e)) (sym course_is) (record { there = refl; result = refl });
     has_read = HasRead-none P s.0 s.0 r r before asked (Failed e) [] (composes.none s.0) usable (record { same_ring = refl; same_setup = refl }) (got-none asked e) (frames-none asked e r);
   }
 
@@ -205,29 +184,29 @@ module _ {S T : Type 0} (P : snoopport.Ghosts S) (G : gates.Ghosts T) (composes 
       → TakesAtSnoop P G s (if_admitted r call.Transfer (read_course r (frames_in r room))) t (d, result) → GivesFrames P s.0 t.0 r d room filled result
       → Keeps P G s t r d result → answer ≡ count_answer result → samples ≡ before ++ take (result_unwrap_or result 0 * length r.setup.bindings) filled
       → HasReaderCalled P G s t r d before samples (op.Read n) answer
-  called-read s t r d before samples room filled n result answer some size takes reads keeps is kept = record {
+  called-read s t r d before samples room filled n result answer some size takes reads keeps is kept = rw is (record {
     takes = Takes-map (LoadsAtSnoop P G) NoLay (GetsAtSnoop P G) s t (if_admitted r call.Transfer (read_course r n)) (λ (done : Answered ℕ). (done.0, count_answer done.1))
-        (d, result) (d, answer)
+        (d, result) (d, count_answer result)
         (read_course-fewer P G s t r n (most_read r) (d, result) (omega arith)
         (subst (λ (k : ℕ). TakesAtSnoop P G s (if_admitted r call.Transfer (read_course r k)) t (d, result)) (frames_in-whole r room (min n (most_read r)) some size) takes))
-        (ap (λ (a : Answer). (d, a)) (sym is));
+        refl;
     has_read = record {
       usable = keeps.port;
       same = record { same_ring = keeps.same_ring; same_setup = keeps.same_setup };
-      below = below_next result reads is;
+      below = below_next result reads;
       more = take (result_unwrap_or result 0 * length r.setup.bindings) filled;
       appended = kept;
-      read = samples_of result reads is;
+      read = samples_of result reads;
     };
-  }
+  })
     where
-      below_next : (result : Result ℕ PcmError) → GivesFrames P s.0 t.0 r d room filled result → answer ≡ count_answer result → got_by (op.Read n) answer ≤ d.next
-      below_next (Ok count) reads is = subst (λ (a : Answer). got_by (op.Read n) a ≤ d.next) (sym is) (let next = reads.next_is in omega (arith, next))
-      below_next (Err e) reads is = subst (λ (a : Answer). got_by (op.Read n) a ≤ d.next) (sym is) (omega arith)
+      below_next : (result : Result ℕ PcmError) → GivesFrames P s.0 t.0 r d room filled result → got_by (op.Read n) (count_answer result) ≤ d.next
+      below_next (Ok count) reads = let next = reads.next_is in omega (arith, next)
+      below_next (Err e) reads = omega arith
 
-      samples_of : (result : Result ℕ PcmError) → GivesFrames P s.0 t.0 r d room filled result → answer ≡ count_answer result
-          → AreSamples P s.0 t.0 r (frames_by (op.Read n) answer d) (take (result_unwrap_or result 0 * length r.setup.bindings) filled)
-      samples_of (Ok count) reads is = subst (λ (a : Answer). AreSamples P s.0 t.0 r (frames_by (op.Read n) a d) (take (count * length r.setup.bindings) filled)) (sym is) (record {
+      samples_of : (result : Result ℕ PcmError) → GivesFrames P s.0 t.0 r d room filled result
+          → AreSamples P s.0 t.0 r (frames_by (op.Read n) (count_answer result) d) (take (result_unwrap_or result 0 * length r.setup.bindings) filled)
+      samples_of (Ok count) reads = record {
         got = reads.frames;
         got_them = reads.got_them;
         frames = reads.frames;
@@ -240,8 +219,8 @@ module _ {S T : Type 0} (P : snoopport.Ghosts S) (G : gates.Ghosts T) (composes 
             ∙ ap (λ (k : ℕ). take k (through_all r.setup.bindings reads.frames ++ drop (count * length r.setup.bindings) room))
             (sym (length-through r.setup.bindings reads.frames ∙ ap (λ (k : ℕ). k * length r.setup.bindings) reads.count))
             ∙ take-append_seam (through_all r.setup.bindings reads.frames) (drop (count * length r.setup.bindings) room);
-      })
-      samples_of (Err e) reads is = subst (λ (a : Answer). AreSamples P s.0 t.0 r (frames_by (op.Read n) a d) (take (0 * length r.setup.bindings) filled)) (sym is) (record {
+      }
+      samples_of (Err e) reads = record {
         got = reads.frames;
         got_them = reads.got_them;
         frames = [];
@@ -249,4 +228,4 @@ module _ {S T : Type 0} (P : snoopport.Ghosts S) (G : gates.Ghosts T) (composes 
         numbers_are = refl;
         whole = All-nil (λ (frame : Frame). length frame.samples ≡ r.geometry.channels);
         samples_are = ap (λ (k : ℕ). take k filled) (zero-mul (length r.setup.bindings));
-      })
+      }

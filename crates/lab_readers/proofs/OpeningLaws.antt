@@ -1,9 +1,9 @@
 -- What an opening and a closing make of a reader, by whether it is open.
-use Rattle.lab_readers.specs.Prelude.{ap, Err, get_or, IfOk, IsSome, IsTrue, length, List, None, refl, Result, subst, sym, ℕ, [], ◌<◌, ◌↔◌, ◌∙◌, ◌∷◌, ◌≡◌, ◌≢◌}
-use Rattle.lab_readers.specs.Prelude.{false≢true, Bool, false, Ok, Option, Some, true, PcmError, CaptureStream, Op, Done, Row, Reader, row_by, after_close}
-use Rattle.lab_readers.specs.Prelude.{after_open, Session, Setup, Stage, LabReader, LabReaders, AreAfter, IsOfRing, readers_of, spare_of, HasGotAllOf-join}
-use Rattle.lab_readers.specs.Prelude.{HasClosed, HasOpened, number_of, OnSeat, reader_in, stream_at, AreAfter-closing, AreAfter-opening, Exchanges, HasClosing}
-use Rattle.lab_readers.specs.Prelude.{HasOpening, IsItemAt, is_some_op}
+use Rattle.lab_readers.specs.Prelude.{ap, arith, Err, get_or, IfOk, IsSome, IsTrue, length, List, None, refl, Result, subst, sym, ℕ, [], ◌<◌, ◌↔◌, ◌∙◌, ◌≡◌}
+use Rattle.lab_readers.specs.Prelude.{◌≢◌, false≢true, nat_tests, Bool, false, Ok, Option, Some, PcmError, CaptureStream, Op, Done, Row, Reader, row_by}
+use Rattle.lab_readers.specs.Prelude.{after_close, after_open, Session, Setup, Stage, LabReader, LabReaders, AreAfter, IsOfRing, readers_of, spare_of}
+use Rattle.lab_readers.specs.Prelude.{HasGotAllOf-join, HasClosed, HasOpened, number_of, OnSeat, reader_in, stream_at, AreAfter-closing, AreAfter-opening}
+use Rattle.lab_readers.specs.Prelude.{Exchanges, HasClosing, HasOpening, IsItemAt, is_some_op}
 use Rattle.snoop_table.specs.declared.seats.reader.ReaderSeat.{ReaderSeat}
 use Rattle.snoop_table.specs.Joins.{HasJoined}
 use Rattle.snoop_table.specs.Readers.{SameReader}
@@ -21,14 +21,8 @@ no_seat (Some s) b is closed = absurd (false≢true (sym closed ∙ is.1 refl))
 pub opening-done : (spare seat : ReaderSeat) (phase : ℕ) (r s : LabReader) (row : Row) (setup : Option Setup) (own : Setup) → r.seat ≡ None → setup ≡ Some own → SameReader spare seat
     → HasOpened seat own r s → row ≡ row_by phase (number_of s) op.Opens (reader_in s).own Done → HasOpening spare phase r s row (reader_in r).own setup
 opening-done spare seat phase r s row setup own closed is of_ring opened row_is =
-    subst (λ (o : Option Setup). HasOpening spare phase r s row (reader_in r).own o) (sym is)
-    (subst (λ (o : Option CaptureStream). HasOpening spare phase r s row o (Some own)) (sym (ap (λ (p : Option ReaderSeat). stream_at p r.actor) closed))
-    (record {
-      seat = seat;
-      of_ring = of_ring;
-      opened = opened;
-      row_is = row_is ∙ ap (λ (n : ℕ). row_by phase n op.Opens (reader_in s).own Done) opened.file.number;
-    }))
+    rw is (subst (λ (o : Option CaptureStream). HasOpening spare phase r s row o (Some own)) (sym (ap (λ (p : Option ReaderSeat). stream_at p r.actor) closed))
+    (record { seat = seat; of_ring = of_ring; opened = opened; row_is = row_is ∙ ap (λ (n : ℕ). row_by phase n op.Opens (reader_in s).own Done) opened.file.number }))
 
 -- an open one is closed, and the spare seat takes its seat over
 pub closing-done : (phase : ℕ) (r s : LabReader) (spare later seat : ReaderSeat) (row : Row) → HasClosed seat r s → HasJoined spare later seat
@@ -53,24 +47,17 @@ pub opened-ok : (rs ss : LabReaders) (number phase : ℕ) (r s : LabReader) (ope
     → AreAfter session capture stage (after_open session stage (actor.Reader number)) row ss)
 opened-ok rs ss number phase r s opening (Err e) at inside exchanged has = tt
 opened-ok rs ss number phase r s opening (Ok row) at inside exchanged has = λ session capture stage at_item is.
-    let before : LabReader = get_or (readers_of rs) number r in
-    AreAfter-opening session capture stage number phase rs ss at_item r s row inside exchanged
-    (subst (λ (o : Option Setup). HasOpening (spare_of rs) phase before s row (reader_in before).own o) (sym is)
-    (subst (λ (t : LabReader). HasOpening (spare_of rs) phase t s row (reader_in t).own opening) at has))
+    AreAfter-opening session capture stage number phase rs ss at_item r s row inside exchanged (rw is (rw at at has))
 
 -- one that is closed is the one that a run closes
 pub closed-after : (rs ss : LabReaders) (number phase : ℕ) (r s : LabReader) (row : Row) → r ≡ get_or (readers_of rs) number r → number < length (readers_of rs)
     → Exchanges rs ss number s → HasClosing (spare_of ss) phase r s row (reader_in r).own → (session : Session) (capture : Option Sound) (stage : Stage) → IsItemAt session capture stage phase rs
     → AreAfter session capture stage (after_close session stage (actor.Reader number)) row ss
 closed-after rs ss number phase r s row at inside exchanged has session capture stage at_item =
-    AreAfter-closing session capture stage number phase rs ss at_item r s row inside exchanged
-    (subst (λ (t : LabReader). HasClosing (spare_of ss) phase t s row (reader_in t).own) at has)
+    AreAfter-closing session capture stage number phase rs ss at_item r s row inside exchanged (rw at at has)
 
 -- ---- lines
 
 -- the test whether some of a phase's lines are a reader's
 pub is_some_op-test : (b : Bool) (ops : List Op) → (IsTrue b ↔ (ops ≢ [])) → is_some_op ops ≡ b
-is_some_op-test true [] test = absurd (test.0 refl refl)
-is_some_op-test true (asked ∷ more) test = refl
-is_some_op-test false [] test = refl
-is_some_op-test false (asked ∷ more) test = absurd (false≢true (test.1 (λ is. cc)))
+is_some_op-test b ops test = grind (arith, nat_tests)

@@ -1,18 +1,15 @@
 -- A reader's lines, one after the other.
-use Rattle.lab_readers.specs.Prelude.{ap, append_assoc, arith, drop, get_or, length, List, refl, subst, suc, sym, vec_capacity, vec_len, zero-mul, ℕ, [], ◌*◌}
-use Rattle.lab_readers.specs.Prelude.{◌++◌, ◌+◌, ◌<◌, ◌∙◌, ◌∷◌, ◌≡◌, ◌≤◌, add-mul, mul-le-mul_right, drop-cons, append-nil, length-append, length-map}
-use Rattle.lab_readers.specs.Prelude.{map-append, flat_map-append, All-append, All-nil, All-weaker, Contains-append_left, Contains-append_right, sum_by-append}
-use Rattle.lab_readers.specs.Prelude.{sum_by-cons, All, Bool, Contains, false, if◌then◌else◌, Option, Some, sum_by, true, ℤ, ◌-◌, Geometry, Composes, Frame}
-use Rattle.lab_readers.specs.Prelude.{SnoopView, CaptureStream, most_read, bound_samples, through_all, Actor, Line, Op, Answer, Row, ops_by, frames_by, Reader}
-use Rattle.lab_readers.specs.Prelude.{reader_kind, row_by, IsAtSnoop, IsReaderLine, got_by, HasSpace, ReaderActor, frames_of_runs, AreSamples}
-use Rattle.lab_readers.specs.Prelude.{HasReaderAnswered, HasSameSetup, AppendsFrames, channels_of, HasGot, HasReaderDone, HasRowsFor, IsSameReader, reader_of}
-use Rattle.lab_readers.specs.Prelude.{ReaderLine, ReaderPart, TakesRow, Progress-joined, Progress-most, SeesAtMost, asked_by, frames_wanted, most_wanted}
-use Rattle.lab_readers.specs.Prelude.{spare_frames, wanted_by}
+use Rattle.lab_readers.specs.Prelude.{ap, append_assoc, arith, length, List, refl, subst, sym, vec_capacity, vec_len, ℕ, [], ◌*◌, ◌++◌, ◌+◌, ◌∙◌, ◌∷◌, ◌≡◌, ◌≤◌}
+use Rattle.lab_readers.specs.Prelude.{add-mul, mul-le-mul_right, nat_tests, append-nil, length-append, length-map, map-append, flat_map-append, All-append}
+use Rattle.lab_readers.specs.Prelude.{All-nil, All-weaker, Contains-append_left, Contains-append_right, sum_by-append, sum_by-cons, Contains, Option, Some}
+use Rattle.lab_readers.specs.Prelude.{sum_by, ℤ, ◌-◌, Geometry, Composes, Frame, SnoopView, CaptureStream, most_read, bound_samples, Op, Answer, Row, Doing}
+use Rattle.lab_readers.specs.Prelude.{PartsGrow, frames_by, Reader, reader_kind, row_by, IsAtSnoop, IsReaderLine, got_by, HasSpace, ReaderActor, frames_of_runs}
+use Rattle.lab_readers.specs.Prelude.{AreSamples, HasReaderAnswered, HasSameSetup, AppendsFrames, channels_of, HasGot, HasReaderDone, IsSameReader, reader_of}
+use Rattle.lab_readers.specs.Prelude.{ReaderLine, ReaderPart, Progress-joined, Progress-most, SeesAtMost, asked_by, frames_wanted, most_wanted, spare_frames}
+use Rattle.lab_readers.specs.Prelude.{wanted_by}
 use Rattle.std.proofs.lemmas.List.FromFn.{length-range_with_len}
 use Rattle.std.proofs.lemmas.Nat.{le-div}
 use Rattle.pcm_stream.specs.declared.setup.Setup.{Setup}
-use Rattle.lab_run.specs.ActorPart.{Doing, PartsGrow}
-use Rattle.lab_readers.proofs.CallProgress.{Progress-same}
 use Rattle.lab_readers.proofs.Called.{HasLoaded-joined, HasLoaded-none, frames_by-count, length-through}
 use Rattle.snoop_core.specs.declared.port.SnoopPort as snoopport
 use Rattle.lab_lines.specs.declared.line.Op.TheVariants as op
@@ -22,48 +19,7 @@ pub IsSameActor-none : (a : ReaderActor) → IsSameReader a a
 IsSameActor-none a = record { number = refl; setup = record { same_ring = refl; same_setup = refl } }
 
 pub IsSameActor-joined : (a x b : ReaderActor) → IsSameReader a x → IsSameReader x b → IsSameReader a b
-IsSameActor-joined a x b one two = record {
-  number = two.number ∙ one.number;
-  setup = record { same_ring = two.setup.same_ring ∙ one.setup.same_ring; same_setup = two.setup.same_setup ∙ one.setup.same_setup };
-}
-
--- the lines that are left before and after the next one
-left-before : (mine : Actor → Bool) (lines : List Line) (k : ℕ) (line : Line) → k < length lines → get_or lines k line ≡ line
-    → ops_by mine (drop k lines) ≡ (if mine line.actor then line.op ∷ [] else []) ++ ops_by mine (drop (k + 1) lines)
-left-before mine lines k line within is =
-    ap (ops_by mine) (drop-cons lines k line within
-    ∙ ap (λ (x : Line). x ∷ drop (suc k) lines) is
-    ∙ ap (λ (j : ℕ). line ∷ drop j lines) (let e : suc k ≡ k + 1 = omega arith in e))
-
-own-left : (mine : Actor → Bool) (lines : List Line) (k : ℕ) (line : Line) → k < length lines → get_or lines k line ≡ line → mine line.actor ≡ true
-    → length (ops_by mine (drop k lines)) ≡ suc (length (ops_by mine (drop (k + 1) lines)))
-own-left mine lines k line within is own =
-    ap length (left-before mine lines k line within is ∙ ap (λ (test : Bool). (if test then line.op ∷ [] else []) ++ ops_by mine (drop (k + 1) lines)) own)
-
-pub other-left : (mine : Actor → Bool) (lines : List Line) (k : ℕ) (line : Line) → k < length lines → get_or lines k line ≡ line → mine line.actor ≡ false
-    → length (ops_by mine (drop k lines)) ≡ length (ops_by mine (drop (k + 1) lines))
-other-left mine lines k line within is other =
-    ap length (left-before mine lines k line within is ∙ ap (λ (test : Bool). (if test then line.op ∷ [] else []) ++ ops_by mine (drop (k + 1) lines)) other)
-
--- the rows and runs that there is room for before and after it
-pub HasRowsFor-own : (a : ReaderActor) (mine : Actor → Bool) (lines : List Line) (k : ℕ) (line : Line) → k < length lines → get_or lines k line ≡ line → mine line.actor ≡ true
-    → HasRowsFor a (length (ops_by mine (drop k lines))) → HasRowsFor a 1
-HasRowsFor-own a mine lines k line within is own room =
-    let size = own-left mine lines k line within is own in
-    let rows = room.rows in
-    let runs = room.runs in
-    record { rows = omega (arith, rows, size); runs = omega (arith, runs, size) }
-
-pub HasRowsFor-next : (a b : ReaderActor) (mine : Actor → Bool) (lines : List Line) (k : ℕ) (line : Line) → k < length lines → get_or lines k line ≡ line → mine line.actor ≡ true
-    → HasRowsFor a (length (ops_by mine (drop k lines))) → TakesRow a b → HasRowsFor b (length (ops_by mine (drop (k + 1) lines)))
-HasRowsFor-next a b mine lines k line within is own room takes =
-    let size = own-left mine lines k line within is own in
-    let rows = room.rows in
-    let few = takes.rows.few in
-    let kept = takes.rows.kept in
-    let runs = room.runs in
-    let one = takes.runs in
-    record { rows = omega (arith, rows, few, kept, size); runs = omega (arith, runs, one, size) }
+IsSameActor-joined a x b one two = grind (arith, nat_tests)
 
 -- ---- the frames that they got
 
@@ -100,15 +56,7 @@ HasGot-line P left by_gate at_gate s t a b asked answer answered room =
     }
 
 pub HasGot-none : (v : SnoopView) (a : ReaderActor) → HasGot v v a a []
-HasGot-none v a =
-    let none : 0 * channels_of a ≡ 0 = zero-mul (channels_of a) in
-    record {
-      count = 0;
-      few = omega arith;
-      samples = omega (arith, none);
-      room = omega arith;
-      progress = Progress-same a.reader v;
-    }
+HasGot-none v a = grind (arith, nat_tests)
 
 pub HasGot-more : (u v w : SnoopView) (a x b : ReaderActor) (ops : List Op) (asked : Op) → IsSameReader a x → HasGot u v a x ops → HasGot v w x b (asked ∷ [])
     → HasGot u w a b (ops ++ asked ∷ [])
@@ -163,15 +111,7 @@ line-fits played v w a x all ops asked some same got within space most =
 module _ {S : Type 0} (P : snoopport.Ghosts S) (composes : Composes P.got) where
   -- samples of frames through the same setup
   AreSamples-same : (p q : S) (r d : CaptureStream) (numbers : List ℕ) (samples : List ℤ) → HasSameSetup r d → AreSamples P p q d numbers samples → AreSamples P p q r numbers samples
-  AreSamples-same p q r d numbers samples same are = record {
-    got = are.got;
-    got_them = are.got_them;
-    frames = are.frames;
-    among = are.among;
-    numbers_are = are.numbers_are;
-    whole = subst (λ (ring : Geometry). All (λ (frame : Frame). length frame.samples ≡ ring.channels) are.frames) same.same_ring are.whole;
-    samples_are = are.samples_are ∙ ap (λ (setup : Setup). through_all setup.bindings are.frames) same.same_setup;
-  }
+  AreSamples-same p q r d numbers samples same are = grind (arith, nat_tests)
 
   AreSamples-joined : (p q s : S) (r : CaptureStream) (numbers others : List ℕ) (samples more : List ℤ) → AreSamples P p q r numbers samples → AreSamples P q s r others more
       → AreSamples P p s r (numbers ++ others) (samples ++ more)
@@ -259,16 +199,7 @@ module _ {S T : Type 0} (P : snoopport.Ghosts S) (composes : Composes P.got) (lo
 IsAtSnoop-shared : {S T U : Type 0} (P : snoopport.Ghosts S) (left : T → Option ℕ) (by_gate at_gate : T → ℕ) (other_left : U → Option ℕ) (by_other at_other : U → ℕ)
     (first : S) (ring : Geometry) (p : S) (g : T) (h : U) (doing : Doing) → left g ≡ other_left h → by_gate g ≡ by_other h → at_gate g ≡ at_other h
     → IsAtSnoop P left by_gate at_gate first ring (p, g) doing → IsAtSnoop P other_left by_other at_other first ring (p, h) doing
-IsAtSnoop-shared P left by_gate at_gate other_left by_other at_other first ring p g h doing same_left same_gate same_asks at = record {
-  geometry = at.geometry;
-  seen = at.seen;
-  left_is = at.left_is ∙ same_left;
-  by_gate_is = at.by_gate_is ∙ same_gate;
-  at_gate_is = at.at_gate_is ∙ same_asks;
-  loads = at.loads;
-  late = at.late;
-  overtaken = at.overtaken;
-}
+IsAtSnoop-shared P left by_gate at_gate other_left by_other at_other first ring p g h doing same_left same_gate same_asks at = grind (arith, nat_tests)
 
 -- an actor that differs from another in nothing but what a `die` lets pass
 pub record IsSameButLeft (b c : ReaderActor) : Type 0 where

@@ -1,7 +1,6 @@
 -- Runs of frames that are apart, and frames that are appended to them.
 use Rattle.lab_readers.specs.Prelude.{ap, append_assoc, arith, List, refl, subst, suc, sym, zero, ℕ, [], ◌++◌, ◌+◌, ◌∙◌, ◌∷◌, ◌≡◌, ◌≢◌, ◌≤◌, nat_tests}
-use Rattle.lab_readers.specs.Prelude.{append-nil, flat_map-append, range_with_len, Bool, false, if◌then◌else◌, nat_eq, true, ⊤, joined_runs, runs_of, AreApart}
-use Rattle.lab_readers.specs.Prelude.{frames_of_runs}
+use Rattle.lab_readers.specs.Prelude.{append-nil, flat_map-append, range_with_len, ⊤, joined_runs, runs_of, AreApart, frames_of_runs}
 use Rattle.dmix_client.specs.ExpansionLaws.{range_with_len-append}
 
 -- no run begins at the end of the one before
@@ -12,15 +11,10 @@ IsBefore end (run ∷ runs) = end ≢ run.0
 -- a frame before runs is a run of one, unless the first run begins after it
 joined-apart : (frame : ℕ) (runs : List (ℕ × ℕ)) → IsBefore (frame + 1) runs → joined_runs frame runs ≡ (frame, 1) ∷ runs
 unfolding IsBefore
-joined-apart frame [] before = refl
-joined-apart frame ((first, count) ∷ runs) before =
-    let differs : nat_eq (frame + 1) first ≡ false = grind (arith, nat_tests, before) in
-    ap (λ (test : Bool). if test then (frame, count + 1) ∷ runs else (frame, 1) ∷ (first, count) ∷ runs) differs
+joined-apart frame runs before = grind (arith, nat_tests)
 
 joined-next : (frame count : ℕ) (runs : List (ℕ × ℕ)) → joined_runs frame ((frame + 1, count) ∷ runs) ≡ (frame, count + 1) ∷ runs
-joined-next frame count runs =
-    let same : nat_eq (frame + 1) (frame + 1) ≡ true = grind (arith, nat_tests) in
-    ap (λ (test : Bool). if test then (frame, count + 1) ∷ runs else (frame, 1) ∷ (frame + 1, count) ∷ runs) same
+joined-next frame count runs = grind (arith, nat_tests)
 
 -- the frames of a run, and then those of runs that don't go on with it
 runs_of-run : (count first : ℕ) (runs : List (ℕ × ℕ)) → IsBefore (first + suc count) runs → runs_of (frames_of_runs runs) ≡ runs

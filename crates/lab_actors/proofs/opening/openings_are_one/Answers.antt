@@ -1,4 +1,4 @@
-use Rattle.lab_actors.proofs.UniqueOpenings.{IsClientOpening-unique, IsReaderOpening-unique}
+use Rattle.lab_run.proofs.OneSession.{IsClientOpening-unique, IsReaderOpening-unique}
 use Rattle.lab_actors.proofs.opening.openings_are_one.Goals as goal
 
 pub returns-clause-clients : goal.returns-clause-clients

@@ -1,9 +1,7 @@
-use Rattle.lab_actors.specs.Prelude.{arith, get_or, length, List, subst, sym, ◌++◌, ◌<◌, ◌∙◌, ◌≡◌, append-nil, get_or_default, take_all, false, true, Line}
-use Rattle.lab_actors.specs.Prelude.{ops_by, other-line, room-next, room-own, is_actor, refused_rows}
+use Rattle.lab_actors.specs.Prelude.{arith, List, subst, sym, ◌++◌, ◌∙◌, ◌≡◌, append-nil, take_all, false, true, Line, ops_by, line_at, other-line, room-next}
+use Rattle.lab_actors.specs.Prelude.{room-own, is_actor, refused_rows}
 use Rattle.lab_actors.proofs.RefusedLaws.{are-refused, refused-next}
 use Rattle.lab_actors.proofs.refused.refuse_lines.Goals.{else-is_of, then-is_of}
-use Rattle.lab_lines.specs.declared.line.Actor.TheVariants as actor
-use Rattle.lab_lines.specs.declared.line.Op.TheVariants as op
 use Rattle.lab_actors.proofs.refused.refuse_lines.Goals as goal
 
 pub loop-index-init : goal.loop-index-init
@@ -14,23 +12,15 @@ loop-index-init c = record {
 
 pub push_row-requires : goal.push_row-requires
 push_row-requires c =
-    let lines = c.args.lines.now in
-    let index = c.loop-index.index in
-    let none : Line = record { number = 0; actor = actor.Card; op = op.Play 0 } in
-    let line : Line = get_or lines index none in
-    let within : index < length lines = c.loop-index-test.true in
-    let space = room-own (is_actor c.args.actor) lines index line c.loop-index.rows within (sym (get_or_default lines index none line within)) c.loop-index.invariant.room
-    (sym c.is_of.ensures ∙ c.if-is_of.true) in
+    let space = room-own (is_actor c.args.actor) c.args.lines.now c.loop-index.index c.loop-index.rows c.loop-index-test.true c.loop-index.invariant.room (sym c.is_of.ensures ∙ c.if-is_of.true) in
     omega (arith, space)
 
 pub loop-index-preserved : goal.loop-index-preserved
 loop-index-preserved c =
     let lines = c.args.lines.now in
     let index = c.loop-index.index in
-    let none : Line = record { number = 0; actor = actor.Card; op = op.Play 0 } in
-    let line : Line = get_or lines index none in
-    let within : index < length lines = c.loop-index-test.true in
-    let is : get_or lines index line ≡ line = sym (get_or_default lines index none line within) in
+    let line : Line = line_at lines index in
+    let within = c.loop-index-test.true in
     let before = c.loop-index.invariant in
     let mine = is_actor c.args.actor in
     elim c.if-is_of.branch [
@@ -39,13 +29,13 @@ loop-index-preserved c =
           let one = w.push_row.ensures.one in
           rw w.rows-is (record {
             rows = w.push_row.ensures.items
-                ∙ refused-next c.args.phase c.args.actor mine lines index line within is own c.args.rows.now.items c.loop-index.rows.items before.rows;
-            room = room-next mine lines index line c.loop-index.rows w.push_row.new.rows within is own before.room
+                ∙ refused-next c.args.phase c.args.actor mine lines index within own c.args.rows.now.items c.loop-index.rows.items before.rows;
+            room = room-next mine lines index c.loop-index.rows w.push_row.new.rows within own before.room
                 (record { few = omega (arith, one); kept = w.push_row.ensures.room });
           })
       | else-is_of w ↦
           let other : mine line.actor ≡ false = sym c.is_of.ensures ∙ w.if-is_of.false in
-          rw (w.rows-is, other-line mine lines index line within is other) before
+          rw (w.rows-is, other-line mine lines index within other) before
     ]
 
 pub returns-clause-part : goal.returns-clause-part

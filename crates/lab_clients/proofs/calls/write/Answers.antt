@@ -1,8 +1,11 @@
-use Rattle.lab_clients.specs.Prelude.{ap, arith, drop, length, List, refl, subst, sym, take, ℕ, ◌*◌, ◌+◌, ◌∙◌, ◌≡◌, ◌≤◌, nat_tests, min, ℤ, ◌-◌, LaysAt}
-use Rattle.lab_clients.specs.Prelude.{LoadsAt, NoGet, Gives-taken, PlaybackStream, Follows, frames_in, IsOffer, Sound, count_answer, frames_of, both}
-use Rattle.lab_clients.proofs.Called.{answer-taken, called-keeps}
-use Rattle.lab_clients.proofs.Fed.{IsFed, write-fed}
+use Rattle.lab_clients.specs.Prelude.{ap, arith, drop, length, List, refl, subst, sym, take, ℕ, [], ◌*◌, ◌+◌, ◌∙◌, ◌≡◌, ◌≤◌, nat_tests, min, ℤ, ◌-◌}
+use Rattle.lab_clients.specs.Prelude.{PlaybackStream, if_admitted, write_course, write-counted, Follows, frames_in, IsOffer, Sound, count_answer, frames_of}
+use Rattle.lab_clients.specs.Prelude.{both}
+use Rattle.lab_clients.proofs.Called.{answer-taken, called-from, fed-within}
+use Rattle.lab_clients.proofs.Fed.{leaves-fed, writes-fed}
 use Rattle.lab_clients.proofs.Offering.{Offers, Offers-Follows, Offers-IsOffer, slice-Offers}
+use Rattle.lab_clients.proofs.StretchLaws.{ExtendsStretches-still}
+use Rattle.pcm_states.specs.declared.calls.Call.TheVariants as call
 use Rattle.lab_lines.specs.declared.line.Op.TheVariants as op
 use Rattle.lab_clients.proofs.calls.write.Goals as goal
 
@@ -23,8 +26,9 @@ returns g c =
     let P = g.P.MixPort in
     let G = g.G.Gate in
     let met = g.met.P.MixPort in
-    let call = c.writei-answer.ensures in
-    let stream = c.args.client.now.stream in
+    let does = c.writei-answer.ensures in
+    let v = c.args.client.now in
+    let stream = v.stream in
     let wav = c.args.wav.now in
     let offer = c.next_frames-offer.result.now in
     let n = min c.args.frames (frames_of wav - stream.fed) in
@@ -36,11 +40,10 @@ returns g c =
     subst (λ (samples : List ℤ). Offers wav stream samples n)
     (sym (offered wav stream offer c.fed.result c.args.frames c.fed.ensures c.next_frames-offer.ensures.frames))
     (slice-Offers wav stream n some c.requires.ready.channels most) in
-    let fed = (Gives-taken (LoadsAt P G) (LaysAt P G) NoGet (IsFed (stream.fed + frames_in stream offer)) s t _ _
-    (write-fed stream c.args.client.now.ring offer _) call.takes).most in
-    called-keeps P G met.laid_composes met.held_laid met.ends_in_part s t wav c.args.client.now c.writei-answer.new.self (op.Write c.args.frames) c.moved_answer.result c.writei-answer.result
-    (λ all. Follows stream all offer (frames_in stream offer)) offer c.requires.ready offers.frames
-    (answer-taken P G met.laid_composes met.held_laid met.ends_in_part count_answer s t _ c.writei-answer.new.self.stream c.writei-answer.result c.moved_answer.result call.takes c.moved_answer.ensures)
-    call.keeps
-    (subst (λ (k : ℕ). Follows stream wav.samples offer k) (sym offers.frames) (Offers-Follows wav stream offer n c.counts_are_sound.ensures.fed offers))
-    refl (omega (arith, fed, offers.frames, most))
+    let course = if_admitted stream call.Transfer (write_course stream v.ring offer (P.view c.args.port.now).marks.cursor) in
+    called-from P G met.laid_composes met.held_laid s t wav v v c.writei-answer.new.self (op.Write c.args.frames) c.moved_answer.result offer [] offers.frames
+    (answer-taken P G count_answer s t v c.writei-answer.new.self (op.Write c.args.frames) offer course c.writei-answer.result c.moved_answer.result does.takes refl c.moved_answer.ensures)
+    does.keeps (subst (λ (k : ℕ). Follows stream wav.samples offer k) (sym offers.frames) (Offers-Follows wav stream offer n c.counts_are_sound.ensures.fed offers)) c.requires.ready c.requires.ready.backed
+    (fed-within P G (stream.fed + frames_in stream offer) s t wav c.writei-answer.new.self.stream course c.writei-answer.result does.takes
+    (write-counted (leaves-fed _) (writes-fed _ _) stream v.ring offer _ (omega arith)) (omega (arith, offers.frames, most)))
+    (ExtendsStretches-still P met.laid_composes c.args.port.now stream stream wav.samples [] refl refl refl) refl

@@ -1,7 +1,9 @@
-use Rattle.lab_clients.specs.Prelude.{ap, refl, subst, sym, ℕ, ◌∙◌, ◌≡◌, None, Result, PcmError, SwParams, IsValid, Playback, Checks, refusal_of}
-use Rattle.lab_clients.specs.Prelude.{configured_with, ClientView, Setup}
+use Rattle.lab_clients.specs.Prelude.{ap, refl, subst, sym, ℕ, ◌∙◌, ◌≡◌, None, Result, PcmError, Playback, refusal_of, configured_with, ClientView, Setup}
+use Rattle.sw_limits.specs.declared.params.SwParams.{SwParams}
 use Rattle.sw_limits.specs.Boundary.{IsBoundary}
-use Rattle.lab_clients.proofs.Params.{valid-checks}
+use Rattle.sw_limits.specs.Params.{IsValid}
+use Rattle.pcm_stream.specs.Setup.{Checks}
+use Rattle.lab_actors.proofs.ParamLaws.{Checks-valid}
 use Rattle.pcm_states.specs.declared.calls.Call.TheVariants as call
 use Rattle.lab_clients.proofs.stream.set_up.Goals as goal
 
@@ -16,6 +18,6 @@ unreachable-requires c =
     let found = c.sw_params.ensures.checked admitted in
     let boundary = subst (λ (n : ℕ). IsBoundary n found.0)
     (ap (λ (v : ClientView). v.stream.setup.config.buffer_size) came ∙ ap (λ (s : Setup). s.config.buffer_size) given) found.1 in
-    valid-checks c.in_default.field-0 inside.params found.0
+    Checks-valid inside.params found.0 c.in_default.field-0
     (subst (λ (p : SwParams). IsValid p found.0) (ap (λ (s : Setup). s.params) (sym given)) (c.requires.params found.0 boundary))
     (subst (λ (r : Result (Unit {0}) PcmError). Checks r inside.params found.0) c.in_default.is found.2)

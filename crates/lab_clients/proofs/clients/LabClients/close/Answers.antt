@@ -1,14 +1,12 @@
-use Rattle.lab_clients.specs.Prelude.{arith, subst, sym, ◌≡◌, nat_tests, false, true, Row, held_of, after_close, AreAfter, clients_of, is_open}
+use Rattle.lab_clients.specs.Prelude.{arith, ◌≡◌, nat_tests, false, true, held_of, clients_of, is_open}
 use Rattle.lab_clients.proofs.ClosingLaws.{AreAfter-closed, AreAfter-closed_already}
 use Rattle.lab_clients.proofs.OpenAt.{open_at-some, open_of-none}
-use Rattle.lab_lines.specs.declared.line.Actor.TheVariants as actor
 use Rattle.lab_clients.proofs.clients.LabClients.close.Goals as goal
 
 pub returns-then-not-is_open-clause-after : goal.returns-then-not-is_open-clause-after
 returns-then-not-is_open-clause-after c session stage at =
     let shut : is_open c.index-client.result.now ≡ false = grind (arith, nat_tests) in
-    subst (λ (row : Row). AreAfter session stage (after_close session stage (actor.Client c.args.number)) row c.args.self.now) (sym c.row.ensures)
-    (AreAfter-closed_already session stage c.args.phase c.args.number c.args.self.now c.index-client.result.now at c.requires.number c.index-client.ensures
+    rw c.row.ensures (AreAfter-closed_already session stage c.args.phase c.args.number c.args.self.now c.index-client.result.now at c.requires.number c.index-client.ensures
     (open_of-none c.index-client.result.now shut))
 
 pub give_back-requires-clause-open : goal.give_back-requires-clause-open

@@ -1,44 +1,40 @@
-use Rattle.lab_clients.specs.Prelude.{arith, IsSome, refl, subst, with_item, clients_of}
-use Rattle.lab_clients.proofs.ClosingLaws.{AreAt-closed, CanClose-closing, Closing-some, OneRing-closing}
+use Rattle.lab_clients.specs.Prelude.{arith, IsSome, refl, subst, with_item, clients_of, IsClientAt}
+use Rattle.lab_clients.proofs.ClosingLaws.{AreIn-closed, CanClose-closing, Closing-at, IsClientAt-keeps, OneRing-closing}
 use Rattle.lab_clients.proofs.OpenAt.{IsClosedAt-set, open_at-inside, open_at-read}
 use Rattle.lab_clients.proofs.clients.LabClients.give_back.Goals as goal
 
 pub index_mut-requires : goal.index_mut-requires
-index_mut-requires c =
-    let inside = open_at-inside (clients_of c.args.self.now) c.args.number c.requires.open in
-    let len = c.args.self.now.clients.ok.0 in
-    omega (arith, inside, len)
+index_mut-requires c = omega (arith, open_at-inside (clients_of c.args.self.now) c.args.number c.requires.open, c.args.self.now.clients.ok.0)
 
 pub close-seat-requires : goal.close-seat-requires
 close-seat-requires c =
     let inside = open_at-inside (clients_of c.args.self.now) c.args.number c.requires.open in
     subst IsSome (open_at-read (clients_of c.args.self.now) c.args.number c.index_mut.result.now inside c.index_mut.ensures.value) c.requires.open
 
-pub close-requires-clause-one_ring : goal.close-requires-clause-one_ring
-close-requires-clause-one_ring c =
+pub close-requires : goal.close-requires
+close-requires c =
     let inside = open_at-inside (clients_of c.args.self.now) c.args.number c.requires.open in
-    let there = subst IsSome (open_at-read (clients_of c.args.self.now) c.args.number c.index_mut.result.now inside c.index_mut.ensures.value) c.requires.open in
-    OneRing-closing c.args.self.now c.args.number c.index_mut.result.now c.close-seat.new.self c.close-seat.result.0 c.close-seat.result.1 c.close-seat.result.2 inside c.index_mut.ensures.value
-    (Closing-some c.index_mut.result.now c.close-seat.new.self c.close-seat.result.0 c.close-seat.result.1 c.close-seat.result.2 there c.close-seat.ensures) c.requires.run
+    let run = c.requires.run in
+    let d = c.index_mut.result.now in
+    let e = c.close-seat.new.self in
+    let seat = c.close-seat.result in
+    let closing = Closing-at c.args.self.now c.args.number d e seat.0 seat.1 seat.2 inside c.index_mut.ensures.value c.requires.open c.close-seat.ensures in
+    record {
+      one_ring = OneRing-closing IsClientAt IsClientAt-keeps run.session run.held run.xs c.args.self.now c.args.number d e seat.0 seat.1 seat.2 run.are inside c.index_mut.ensures.value closing;
+      can = CanClose-closing IsClientAt IsClientAt-keeps run.session run.held run.xs c.args.self.now c.args.number d e seat.0 seat.1 seat.2 run.are inside c.index_mut.ensures.value closing;
+    }
 
-pub close-requires-clause-can : goal.close-requires-clause-can
-close-requires-clause-can c =
+pub returns : goal.returns
+returns c =
     let inside = open_at-inside (clients_of c.args.self.now) c.args.number c.requires.open in
-    let there = subst IsSome (open_at-read (clients_of c.args.self.now) c.args.number c.index_mut.result.now inside c.index_mut.ensures.value) c.requires.open in
-    CanClose-closing c.args.self.now c.args.number c.index_mut.result.now c.close-seat.new.self c.close-seat.result.0 c.close-seat.result.1 c.close-seat.result.2 inside c.index_mut.ensures.value
-    (Closing-some c.index_mut.result.now c.close-seat.new.self c.close-seat.result.0 c.close-seat.result.1 c.close-seat.result.2 there c.close-seat.ensures) c.requires.run
-
-pub returns-clause-closed : goal.returns-clause-closed
-returns-clause-closed c =
-    let inside = open_at-inside (clients_of c.args.self.now) c.args.number c.requires.open in
-    let there = subst IsSome (open_at-read (clients_of c.args.self.now) c.args.number c.index_mut.result.now inside c.index_mut.ensures.value) c.requires.open in
-    AreAt-closed c.args.self.now c.args.number c.index_mut.result.now c.close-seat.new.self c.close-seat.result.0 c.close-seat.result.1 c.close-seat.result.2 inside c.index_mut.ensures.value
-    (Closing-some c.index_mut.result.now c.close-seat.new.self c.close-seat.result.0 c.close-seat.result.1 c.close-seat.result.2 there c.close-seat.ensures)
-    (record { places = c.close.new.self; clients = with_item c.args.self.now.clients c.args.number c.close-seat.new.self }) c.last_frames_are_own.ensures c.close.ensures.closes c.close.ensures.card refl c.close.ensures.laid
-
-pub returns-clause-clients : goal.returns-clause-clients
-returns-clause-clients c =
-    let inside = open_at-inside (clients_of c.args.self.now) c.args.number c.requires.open in
-    let there = subst IsSome (open_at-read (clients_of c.args.self.now) c.args.number c.index_mut.result.now inside c.index_mut.ensures.value) c.requires.open in
-    IsClosedAt-set (clients_of c.args.self.now) c.args.number c.close-seat.new.self inside
-    (Closing-some c.index_mut.result.now c.close-seat.new.self c.close-seat.result.0 c.close-seat.result.1 c.close-seat.result.2 there c.close-seat.ensures).closed.closed
+    let d = c.index_mut.result.now in
+    let e = c.close-seat.new.self in
+    let seat = c.close-seat.result in
+    let closing = Closing-at c.args.self.now c.args.number d e seat.0 seat.1 seat.2 inside c.index_mut.ensures.value c.requires.open c.close-seat.ensures in
+    record {
+      closed = λ session held xs are.
+          AreIn-closed IsClientAt IsClientAt-keeps session held xs c.args.self.now c.args.number d e seat.0 seat.1 seat.2 are inside c.index_mut.ensures.value closing
+          (record { places = c.close.new.self; clients = with_item c.args.self.now.clients c.args.number e }) c.last_frames_are_own.ensures c.close.ensures.closes c.close.ensures.card refl c.close.ensures.laid;
+      clients = IsClosedAt-set (clients_of c.args.self.now) c.args.number e inside closing.closed.closed;
+      card = c.close.ensures.card;
+    }

@@ -5,12 +5,9 @@ use Rattle.lab_clients.proofs.clients.LabClients.hear.Goals as goal
 pub hear-requires : goal.hear-requires
 hear-requires c =
     let l = c.loop-index in
-    let below = c.loop-index-test.true in
-    let end = c.len-index-end.ensures in
-    let len = c.args.self.now.clients.ok.0 in
     let d = c.index_mut.result.now in
     let was = HasWalked-still (IsHeardBy c.args.card.now) (clients_of c.args.self.now) (clients_of l.self) l.index d l.invariant.walked c.index_mut.ensures.value in
-    let of = subst (λ (x : LabClient). IsOfCard c.args.card.now x) (sym was) (c.requires l.index d (omega (arith, below, end, len))) in
+    let of = subst (λ (x : LabClient). IsOfCard c.args.card.now x) (sym was) (c.requires l.index d (omega arith)) in
     IsOfCard-ring (player_ring (seat_of_card c.args.card.now)) (player_key (seat_of_card c.args.card.now)) l.card d
     (record { of_ring = l.invariant.card.player.ring; of_key = l.invariant.card.player.key }) (IsOfRing-card c.args.card.now d of)
 

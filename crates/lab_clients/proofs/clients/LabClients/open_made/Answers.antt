@@ -1,9 +1,7 @@
-use Rattle.lab_clients.specs.Prelude.{ap, List, refl, subst, sym, ℕ, ◌∙◌, ◌≡◌, Err, Ok, with_item, MixSeat, position_of_player, member_of, Row, held_of}
-use Rattle.lab_clients.specs.Prelude.{after_open, opened_client, Setup, Opens, share_of, LabClients, AreAfter, clients_of, HasKeptLast, HasOpened}
-use Rattle.sum_table.specs.declared.view.Key.{Key}
+use Rattle.lab_clients.specs.Prelude.{ap, refl, subst, sym, ◌∙◌, with_item, MixSeat, position_of_player, member_of, held_of, Setup, LabClients, clients_of}
+use Rattle.lab_clients.specs.Prelude.{HasKeptLast, HasOpened}
 use Rattle.lab_clients.proofs.OpenAt.{open_at-read}
 use Rattle.lab_clients.proofs.OpeningLaws.{AreAfter-opened, AreAfter-refused}
-use Rattle.lab_lines.specs.declared.line.Actor.TheVariants as actor
 use Rattle.lab_clients.proofs.clients.LabClients.open_made.Goals as goal
 
 pub returns-in-Err-clause-after : goal.returns-in-Err-clause-after
@@ -14,9 +12,8 @@ returns-in-Err-clause-after c session stage before =
     let d = c.index-client.result.now in
     let closed = sym (open_at-read (clients_of c.args.self.now) c.args.number d c.requires.number c.index-client.ensures) ∙ c.requires.closed in
     let opens = c.in-Err.ensures.opens c.args.number (held_of stage) before.at.are.held_by in
-    subst (λ (row : Row). AreAfter session stage (after_open session stage (actor.Client c.args.number)) row ds) (sym c.row.ensures)
-    (AreAfter-refused session stage c.args.number setup at c.args.phase c.args.self.now ds d before c.requires.number c.index-client.ensures closed c.in-Err.e
-    (subst (λ (bound : List ℕ). Opens (share_of c.args.self.now.places) c.args.number bound at (held_of stage) (Err c.in-Err.e) c.open.new.self) (ap (λ (s : Setup). s.bindings) c.opening.view_is) opens)
+    rw c.row.ensures (AreAfter-refused session stage c.args.number setup at c.args.phase c.args.self.now ds d before c.requires.number c.index-client.ensures closed c.in-Err.e
+    (rw (ap (λ (s : Setup). s.bindings) c.opening.view_is) at opens)
     c.open.ensures.card refl c.in-Err.ensures.laid)
 
 pub open-requires-2-clause-closed : goal.open-requires-2-clause-closed
@@ -28,10 +25,8 @@ open-requires-2-clause-kept c = subst HasKeptLast (sym c.index_mut-client.ensure
 
 pub open-requires-2-clause-stream : goal.open-requires-2-clause-stream
 open-requires-2-clause-stream c =
-    let setup = c.args.opening.now in
     let seat : MixSeat = c.in-Ok.seat in
-    subst (λ (k : Key). c.args.stream.stream ≡ opened_client k.geometry (member_of seat) setup) (c.requires.one_ring.1 ∙ sym c.in-Ok.ensures.given.place.of_key)
-    (c.requires.stream (member_of seat) c.in-Ok.ensures.place)
+    rw (sym (c.requires.one_ring.1 ∙ sym c.in-Ok.ensures.given.place.of_key)) (c.requires.stream (member_of seat) c.in-Ok.ensures.place)
 
 pub returns-clause-after : goal.returns-clause-after
 returns-clause-after c session stage before =
@@ -42,7 +37,6 @@ returns-clause-after c session stage before =
     let closed = sym (open_at-read (clients_of c.args.self.now) c.args.number d c.requires.number c.index_mut-client.ensures.value) ∙ c.requires.closed in
     let opens = c.in-Ok.ensures.opens c.args.number (held_of stage) before.at.are.held_by in
     let opened = subst (λ n. HasOpened c.in-Ok.seat setup n d c.open-2.new.self) c.position-position.ensures.value c.open-2.ensures in
-    subst (λ (row : Row). AreAfter session stage (after_open session stage (actor.Client c.args.number)) row ds) (sym c.row-2.ensures)
-    (AreAfter-opened session stage c.args.number setup at c.args.phase c.args.self.now ds d c.open-2.new.self c.in-Ok.seat before c.requires.number c.index_mut-client.ensures.value closed
-    (subst (λ (bound : List ℕ). Opens (share_of c.args.self.now.places) c.args.number bound at (held_of stage) (Ok c.in-Ok.seat) c.open.new.self) (ap (λ (s : Setup). s.bindings) c.opening.view_is) opens)
+    rw c.row-2.ensures (AreAfter-opened session stage c.args.number setup at c.args.phase c.args.self.now ds d c.open-2.new.self c.in-Ok.seat before c.requires.number c.index_mut-client.ensures.value closed
+    (rw (ap (λ (s : Setup). s.bindings) c.opening.view_is) at opens)
     c.in-Ok.ensures.given opened c.open.ensures.card refl c.in-Ok.ensures.laid)

@@ -1,36 +1,29 @@
-use Rattle.lab_clients.specs.Prelude.{IsSome, refl, subst, Option, with_item, LabClients, OpenClient, clients_of, open_of}
+use Rattle.lab_clients.specs.Prelude.{IsSome, refl, subst, with_item, clients_of, IsClientDone}
+use Rattle.lab_clients.proofs.ClosingLaws.{AreIn-closed, CanClose-closing, Closing-at, IsClientDone-keeps, OneRing-closing}
 use Rattle.lab_clients.proofs.OpenAt.{open_at-read}
-use Rattle.lab_clients.proofs.ReapLaws.{AreDone-closed, CanClose-closed, OneRing-closed, WasClosed-open}
 use Rattle.lab_clients.proofs.clients.LabClients.reap_open.Goals as goal
 
 pub close-seat-requires : goal.close-seat-requires
 close-seat-requires c =
-    subst (λ (own : Option OpenClient). IsSome own) (open_at-read (clients_of c.args.self.now) c.args.number c.index_mut.result.now c.requires.inside c.index_mut.ensures.value) c.requires.open
+    subst IsSome (open_at-read (clients_of c.args.self.now) c.args.number c.index_mut.result.now c.requires.inside c.index_mut.ensures.value) c.requires.open
 
-pub reap-requires-clause-one_ring : goal.reap-requires-clause-one_ring
-reap-requires-clause-one_ring c =
+pub reap-requires : goal.reap-requires
+reap-requires c =
     let run = c.requires.run in
+    let d = c.index_mut.result.now in
+    let e = c.close-seat.new.self in
     let seat = c.close-seat.result in
-    let opened : IsSome (open_of c.index_mut.result.now) =
-    subst (λ (own : Option OpenClient). IsSome own) (open_at-read (clients_of c.args.self.now) c.args.number c.index_mut.result.now c.requires.inside c.index_mut.ensures.value) c.requires.open in
-    OneRing-closed run.session run.held run.xs c.args.self.now c.args.number c.index_mut.result.now run.are c.requires.inside c.index_mut.ensures.value
-    seat.0 seat.1 seat.2 c.close-seat.new.self (WasClosed-open c.index_mut.result.now seat.0 seat.1 seat.2 c.close-seat.new.self opened c.close-seat.ensures)
-
-pub reap-requires-clause-can : goal.reap-requires-clause-can
-reap-requires-clause-can c =
-    let run = c.requires.run in
-    let seat = c.close-seat.result in
-    let opened : IsSome (open_of c.index_mut.result.now) =
-    subst (λ (own : Option OpenClient). IsSome own) (open_at-read (clients_of c.args.self.now) c.args.number c.index_mut.result.now c.requires.inside c.index_mut.ensures.value) c.requires.open in
-    CanClose-closed run.session run.held run.xs c.args.self.now c.args.number c.index_mut.result.now run.are c.requires.inside c.index_mut.ensures.value
-    seat.0 seat.1 seat.2 c.close-seat.new.self (WasClosed-open c.index_mut.result.now seat.0 seat.1 seat.2 c.close-seat.new.self opened c.close-seat.ensures)
+    let closing = Closing-at c.args.self.now c.args.number d e seat.0 seat.1 seat.2 c.requires.inside c.index_mut.ensures.value c.requires.open c.close-seat.ensures in
+    record {
+      one_ring = OneRing-closing IsClientDone IsClientDone-keeps run.session run.held run.xs c.args.self.now c.args.number d e seat.0 seat.1 seat.2 run.are c.requires.inside c.index_mut.ensures.value closing;
+      can = CanClose-closing IsClientDone IsClientDone-keeps run.session run.held run.xs c.args.self.now c.args.number d e seat.0 seat.1 seat.2 run.are c.requires.inside c.index_mut.ensures.value closing;
+    }
 
 pub returns-clause-closed : goal.returns-clause-closed
-returns-clause-closed c session held xs done =
+returns-clause-closed c session held xs are =
+    let d = c.index_mut.result.now in
+    let e = c.close-seat.new.self in
     let seat = c.close-seat.result in
-    let opened : IsSome (open_of c.index_mut.result.now) =
-    subst (λ (own : Option OpenClient). IsSome own) (open_at-read (clients_of c.args.self.now) c.args.number c.index_mut.result.now c.requires.inside c.index_mut.ensures.value) c.requires.open in
-    let after : LabClients = record { places = c.reap.new.self; clients = with_item c.args.self.now.clients c.args.number c.close-seat.new.self } in
-    AreDone-closed session held xs c.args.self.now after c.args.number c.index_mut.result.now c.close-seat.new.self seat.0 seat.1 seat.2 done c.requires.inside c.index_mut.ensures.value
-    (WasClosed-open c.index_mut.result.now seat.0 seat.1 seat.2 c.close-seat.new.self opened c.close-seat.ensures)
-    c.last_frames_are_own.ensures c.reap.ensures.closes c.reap.ensures.card refl c.reap.ensures.laid
+    let closing = Closing-at c.args.self.now c.args.number d e seat.0 seat.1 seat.2 c.requires.inside c.index_mut.ensures.value c.requires.open c.close-seat.ensures in
+    AreIn-closed IsClientDone IsClientDone-keeps session held xs c.args.self.now c.args.number d e seat.0 seat.1 seat.2 are c.requires.inside c.index_mut.ensures.value closing
+    (record { places = c.reap.new.self; clients = with_item c.args.self.now.clients c.args.number e }) c.last_frames_are_own.ensures c.reap.ensures.closes c.reap.ensures.card refl c.reap.ensures.laid

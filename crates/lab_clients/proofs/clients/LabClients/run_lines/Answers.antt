@@ -6,13 +6,10 @@ use Rattle.lab_clients.proofs.clients.LabClients.run_lines.Goals as goal
 pub run_lines-requires : goal.run_lines-requires
 run_lines-requires g c =
     let l = c.loop-index in
-    let below = c.loop-index-test.true in
-    let end = c.len-index-end.ensures in
-    let len = c.args.self.now.clients.ok.0 in
     let files = c.requires.files in
     let clients = clients_of c.args.self.now in
     let wavs = c.args.wavs.now in
-    let within : l.index < length clients = omega (arith, below, end, len) in
+    let within : l.index < length clients = omega arith in
     let d = c.index_mut.result.now in
     let wav = c.index-wavs-index.result in
     let was = HasWalked-still (RunsAt g.G.Gate c.args.gates.now l.gates wavs c.args.phase c.args.lines.now) clients (clients_of l.self) l.index d l.invariant.run.walked c.index_mut.ensures.value in
@@ -26,12 +23,9 @@ run_lines-requires g c =
 pub loop-index-preserved : goal.loop-index-preserved
 loop-index-preserved g c =
     let l = c.loop-index in
-    let below = c.loop-index-test.true in
-    let end = c.len-index-end.ensures in
-    let len = c.args.self.now.clients.ok.0 in
     let gates = c.requires.gates in
     let files = c.requires.files in
-    let within : l.index < length (clients_of c.args.self.now) = omega (arith, below, end, len) in
+    let within : l.index < length (clients_of c.args.self.now) = omega arith in
     record {
       places = l.invariant.places;
       run = HaveRun-next g.G.Gate c.args.gates.now l.gates c.args.wavs.now c.args.phase c.args.lines.now (clients_of c.args.self.now) (clients_of l.self) l.index
@@ -45,7 +39,4 @@ returns-clause-run g c =
 
 pub returns-clause-others : goal.returns-clause-others
 returns-clause-others g c =
-    let most = c.loop-index.auto.index-end in
-    let end = c.len-index-end.ensures in
-    let len = c.args.self.now.clients.ok.0 in
-    λ i gate from. c.loop-index.invariant.run.others i gate (omega (arith, from, most, end, len))
+    λ i gate from. c.loop-index.invariant.run.others i gate (omega arith)

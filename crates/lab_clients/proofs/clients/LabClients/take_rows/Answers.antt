@@ -5,19 +5,13 @@ use Rattle.lab_clients.proofs.clients.LabClients.take_rows.Goals as goal
 pub take_rows-requires : goal.take_rows-requires
 take_rows-requires c =
     let l = c.loop-index in
-    let below = c.loop-index-test.true in
-    let end = c.len-index-end.ensures in
-    let len = c.args.self.now.clients.ok.0 in
     subst (λ (x : LabClient). HasSpace (length (rows_of x)) l.rows) (sym c.index_mut.ensures.value)
-    (rows-room rows_of HasGivenRows c.args.rows.now l.rows (clients_of c.args.self.now) (clients_of l.self) l.index c.index_mut.result.now (omega (arith, below, end, len)) l.invariant.walked l.invariant.rows
+    (rows-room rows_of HasGivenRows c.args.rows.now l.rows (clients_of c.args.self.now) (clients_of l.self) l.index c.index_mut.result.now (omega arith) l.invariant.walked l.invariant.rows
     c.requires l.invariant.room)
 
 pub loop-index-preserved : goal.loop-index-preserved
 loop-index-preserved c =
     let l = c.loop-index in
-    let below = c.loop-index-test.true in
-    let end = c.len-index-end.ensures in
-    let len = c.args.self.now.clients.ok.0 in
     let d = c.index_mut.result.now in
     let was = l.invariant.room in
     let grown = c.take_rows.ensures.room in
@@ -26,7 +20,7 @@ loop-index-preserved c =
       walked = HasWalked-read c.args.self.now.clients l.self.clients c.take_rows.new.self d c.len-index-end.ensures c.loop-index-test.true l.invariant.walked c.index_mut.ensures.value
           (record { none = c.take_rows.ensures.none; same = c.take_rows.ensures.same });
       rows = c.take_rows.ensures.rows ∙ ap (λ (x : LabClient). l.rows.items ++ rows_of x) c.index_mut.ensures.value
-          ∙ rows-next rows_of HasGivenRows c.args.rows.now.items l.rows.items (clients_of c.args.self.now) (clients_of l.self) l.index d (omega (arith, below, end, len)) l.invariant.walked l.invariant.rows;
+          ∙ rows-next rows_of HasGivenRows c.args.rows.now.items l.rows.items (clients_of c.args.self.now) (clients_of l.self) l.index d (omega arith) l.invariant.walked l.invariant.rows;
       room = omega (arith, was, grown);
     }
 
@@ -38,6 +32,4 @@ pub returns-clause-rows : goal.returns-clause-rows
 returns-clause-rows c =
     let l = c.loop-index in
     let over = c.loop-index-test.false in
-    let end = c.len-index-end.ensures in
-    let len = c.args.self.now.clients.ok.0 in
-    l.invariant.rows ∙ ap (λ (xs : List LabClient). c.args.rows.now.items ++ flat_map rows_of xs) (take_all l.index (clients_of c.args.self.now) (omega (arith, over, end, len)))
+    l.invariant.rows ∙ ap (λ (xs : List LabClient). c.args.rows.now.items ++ flat_map rows_of xs) (take_all l.index (clients_of c.args.self.now) (omega (arith, over)))

@@ -6,12 +6,9 @@ use Rattle.lab_readers.proofs.readers.LabReaders.inform.Goals as goal
 pub inform-requires : goal.inform-requires
 inform-requires c =
     let l = c.loop-index in
-    let below = c.loop-index-test.true in
-    let end = c.len-index-end.ensures in
-    let len = c.args.self.now.readers.ok.0 in
     let d = c.index_mut.result.now in
     let was = HasWalked-still (IsInformedBy c.args.card.now) (readers_of c.args.self.now) (readers_of l.self) l.index d l.invariant.walked c.index_mut.ensures.value in
-    let of = subst (λ (x : LabReader). IsOfCard c.args.card.now x) (sym was) (c.requires l.index d (omega (arith, below, end, len))) in
+    let of = subst (λ (x : LabReader). IsOfCard c.args.card.now x) (sym was) (c.requires l.index d (omega arith)) in
     IsOfCard-same c.args.card.now l.card d l.invariant.card of
 
 pub loop-index-preserved : goal.loop-index-preserved

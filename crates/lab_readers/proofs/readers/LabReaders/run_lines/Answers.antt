@@ -11,16 +11,12 @@ loop-index-init g c = record {
 
 pub loop-index-preserved : goal.loop-index-preserved
 loop-index-preserved g c =
-    let below = c.loop-index-test.true in
-    let end = c.len-index-end.ensures in
-    let len = c.args.self.now.readers.ok.0 in
-    let enough = c.requires.gates in
     let G = g.G.Gate in let phase = c.args.phase in let lines = c.args.lines.now in
     let index = c.loop-index.index in let before = readers_of c.args.self.now in let reader = c.index_mut.result.now in let after = c.run_lines.new.self in
     let first = c.args.gates.now in let gates = c.loop-index.gates in let gate = c.run_lines.new.gate in let now = slice_set gates index gate in
-    let inside : index < length before = omega (arith, below, end, len) in
+    let inside : index < length before = omega arith in
     let behind : index < length gates = omega arith in
-    let had : index < length first = omega (arith, inside, enough) in
+    let had : index < length first = omega (arith, inside, c.requires.gates) in
     let so_far = c.loop-index.invariant in
     record {
       spare = so_far.spare;
