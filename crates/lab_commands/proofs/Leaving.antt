@@ -1,9 +1,9 @@
 -- How a command ends whose parts read, run and write.
-use Rattle.lab_commands.specs.Prelude.{ap, inl, inr, List, refl, subst, ℕ, ◌++◌, ◌∙◌, ◌≡◌, ◌⊎◌, ForSome, option_map, Err, IfErr, Ok, OnErr, OnOk, Option}
-use Rattle.lab_commands.specs.Prelude.{Result, Some, Pass, StepKind, Sound, Files, TookPart, Item, Script as ScriptOf, IsScript, Outcome, IsSessionOf, Session}
-use Rattle.lab_commands.specs.Prelude.{Stops, IsExactRun, IsOwnRun, IsUnstoppedRun, Stop, IsWriteKind-only, at_memory, at_output, IsWriteStop, stop_facts}
-use Rattle.lab_commands.specs.Prelude.{StopKind, input_in, RunInput, IsCheckedRun, Workload, HasPlayedAsking, HasPlayedPart, IsUntouched, IsMadeAsking}
-use Rattle.lab_commands.specs.Prelude.{IsMadePart, HasFinishedAsking, IsUnfinished, CommandLeaves, LeavesAt, check, Form, make, refine, run}
+use Rattle.lab_commands.specs.Prelude.{ap, arith, inl, inr, List, subst, ℕ, ◌++◌, ◌∙◌, ◌≡◌, ◌⊎◌, nat_tests, ForSome, option_map, Err, IfErr, Ok, OnErr, OnOk}
+use Rattle.lab_commands.specs.Prelude.{Option, Result, Some, Pass, StepKind, Sound, Files, TookPart, Item, Script as ScriptOf, IsScript, Outcome, IsSessionOf}
+use Rattle.lab_commands.specs.Prelude.{Session, Stops, IsExactRun, IsOwnRun, IsUnstoppedRun, Stop, IsWriteKind-only, IsWriteStop, stop_facts, input_in}
+use Rattle.lab_commands.specs.Prelude.{RunInput, IsCheckedRun, Workload, HasPlayedAsking, HasPlayedPart, IsUntouched, IsMadeAsking, IsMadePart}
+use Rattle.lab_commands.specs.Prelude.{HasFinishedAsking, IsUnfinished, CommandLeaves, LeavesAt, check, make, refine, run}
 use Rattle.lab_report.specs.Ranges.{IsReportInRange}
 use Rattle.lab_check.specs.Runs.{RunsAreChecked, RunsSayHeadline}
 use Rattle.lab_compare.proofs.PassedChecks.{run-passes}
@@ -63,36 +63,16 @@ pub CommandLeaves-made : {T : Type 0} (asked : T → T → List StepKind → Pas
     → OnOk r (IsMadeAsking asked gates gates_after w stops before after taken taken_after)
     → OnErr r (IsUntouched before after taken taken_after ⊎ IsMadePart w stops before after taken taken_after)
     → CommandLeaves r (Some (make w)) stops before after taken taken_after
-CommandLeaves-made asked gates gates_after w stops before after taken taken_after (Ok x) only done part = done.made
-CommandLeaves-made asked gates gates_after w stops before after taken taken_after (Err stop) only done part =
-    IsWriteKind-only (λ kind. LeavesAt kind (Some (make w)) stops before after taken taken_after) (stop_facts stop).kind only part part
+CommandLeaves-made asked gates gates_after w stops before after taken taken_after r only done part = grind (arith, nat_tests)
 
 -- what a call leaves that puts answers
 pub CommandLeaves-answered : (name text : List ℕ) (gates : Stops) (before after : Option Files) (taken taken_after : Option (List ℕ)) (r : Result (Unit {0}) Stop)
     → IfErr r IsWriteStop → IsAnswerTo before name text → after ≡ before → OnOk r (taken_after ≡ option_map (λ t. t ++ text) taken)
     → OnErr r (TookPart taken taken_after text)
     → CommandLeaves r (Some (refine name)) gates before after taken taken_after
-CommandLeaves-answered name text gates before after taken taken_after (Ok x) only answers files put part = record { text = text; answers = answers; files = files; put = put }
-CommandLeaves-answered name text gates before after taken taken_after (Err stop) only answers files put part =
-    let left : LeavesAt at_memory (Some (refine name)) gates before after taken taken_after =
-    inr (record { text = text; answers = answers; files = files; put = part }) in
-    IsWriteKind-only (λ kind. LeavesAt kind (Some (refine name)) gates before after taken taken_after) (stop_facts stop).kind only left left
-
-untouched-at : (form : Option Form) (gates : Stops) (before after : Option Files) (taken taken_after : Option (List ℕ)) (kind : StopKind)
-    → IsUntouched before after taken taken_after → LeavesAt kind form gates before after taken taken_after
-untouched-at form gates before after taken taken_after at_output untouched = inl untouched
-untouched-at form gates before after taken taken_after at_memory untouched = inl untouched
-untouched-at form gates before after taken taken_after other untouched = untouched
-
--- a call that writes nothing leaves nothing, whyever it stops
-pub CommandLeaves-untouched : (form : Option Form) (gates : Stops) (before after : Option Files) (taken taken_after : Option (List ℕ)) (stop : Stop)
-    → IsUntouched before after taken taken_after → CommandLeaves {X = Unit {0}} (Err stop) form gates before after taken taken_after
-CommandLeaves-untouched form gates before after taken taken_after stop untouched =
-    untouched-at form gates before after taken taken_after (stop_facts stop).kind untouched
+CommandLeaves-answered name text gates before after taken taken_after r only answers files put part = grind (arith, nat_tests)
 
 -- what a call leaves that checks a run
 pub CommandLeaves-checked : (script report out : List ℕ) (gates : Stops) (before after : Option Files) (taken : Option (List ℕ)) (r : Result (Unit {0}) Stop)
     → OnOk r (IsCheckedRun before script report out) → after ≡ before → CommandLeaves r (Some (check script report out)) gates before after taken taken
-CommandLeaves-checked script report out gates before after taken (Ok x) done same = record { run = done; untouched = record { files = same; text = refl } }
-CommandLeaves-checked script report out gates before after taken (Err stop) done same =
-    CommandLeaves-untouched (Some (check script report out)) gates before after taken taken stop (record { files = same; text = refl })
+CommandLeaves-checked script report out gates before after taken r done same = grind (arith, nat_tests)

@@ -1,10 +1,10 @@
 -- What the parts of the command leave together.
-use Rattle.lab_commands.specs.Prelude.{ap, inl, inr, List, refl, subst, sym, ℕ, [], ◌++◌, ◌∙◌, ◌≡◌, option_map, All, None, Ok, Option, Some, ℤ, Pass, StepKind}
-use Rattle.lab_commands.specs.Prelude.{Sound, Files, IsPartWritten, with_file, Item, Script, IsScript, Outcome, IsSessionOf, Session, Stops, IsExactRun}
-use Rattle.lab_commands.specs.Prelude.{IsOwnRun, IsUnstoppedRun, HaveOneSession, RunInput, finished_files, output_files, Summary, Workload, IsMadeSound}
-use Rattle.lab_commands.specs.Prelude.{made_sounds, made_script, InputInPart, IsReadBack, made_input, with_input, with_workload, IsSummaryOf, summary_text}
-use Rattle.lab_commands.specs.Prelude.{HasPlayed, HasPlayedAsking, HasPlayedPart, sounds_of, HaveNoStops, HasPutSummary, HasPutSummaryPart, IsMadeAsking}
-use Rattle.lab_commands.specs.Prelude.{IsMadePart, IsOnlyMade, made_outcome, made_report, output_name, report_name, with_made, with_run_files}
+use Rattle.lab_commands.specs.Prelude.{ap, arith, inl, inr, List, refl, subst, sym, ℕ, [], ◌++◌, ◌∙◌, ◌≡◌, nat_tests, option_map, All, None, Ok, Option, Some}
+use Rattle.lab_commands.specs.Prelude.{Pass, StepKind, Sound, Files, IsPartWritten, with_file, Item, Script, IsScript, Outcome, IsSessionOf, Session, Stops}
+use Rattle.lab_commands.specs.Prelude.{IsExactRun, IsOwnRun, IsUnstoppedRun, HaveOneSession, RunInput, finished_files, output_files, Summary, Workload}
+use Rattle.lab_commands.specs.Prelude.{IsMadeSound, made_sounds, made_script, InputInPart, IsReadBack, made_input, with_input, with_workload, IsSummaryOf}
+use Rattle.lab_commands.specs.Prelude.{summary_text, HasPlayed, HasPlayedAsking, HasPlayedPart, sounds_of, HaveNoStops, HasPutSummary, HasPutSummaryPart}
+use Rattle.lab_commands.specs.Prelude.{IsMadeAsking, IsMadePart, IsOnlyMade, made_outcome, made_report, output_name, report_name, with_made, with_run_files}
 use Rattle.lab_script.specs.Reading.{script_of}
 use Rattle.lab_make.specs.Lines.{made_text}
 use Rattle.lab_make.specs.Workload.{IsWorkload}
@@ -18,48 +18,17 @@ pub record RunLaws : Type 0 where
       → IsUnstoppedRun session capture script.body outcome → IsOwnRun script session outcome
   pub one : (script : Script) (wavs : List Sound) → HaveOneSession script wavs
 
-summary-with : (seed clients phases played segments laid xruns : ℕ) (sum : ℤ) → Summary
-summary-with seed clients phases played segments laid xruns sum = record {
-  seed = seed;
-  clients = clients;
-  phases = phases;
-  played = played;
-  segments = segments;
-  laid = laid;
-  xruns = xruns;
-  sum = sum;
-}
-
-same-numbers : (a b : Summary) → a.seed ≡ b.seed → a.clients ≡ b.clients → a.phases ≡ b.phases → a.played ≡ b.played → a.segments ≡ b.segments → a.laid ≡ b.laid
-    → a.xruns ≡ b.xruns → a.sum ≡ b.sum
-    → summary-with a.seed a.clients a.phases a.played a.segments a.laid a.xruns a.sum ≡ summary-with b.seed b.clients b.phases b.played b.segments b.laid b.xruns b.sum
-same-numbers a b seed clients phases played segments laid xruns sum = cc
-
--- two summaries with the same numbers are one
-same-summary : (a b : Summary) → a.seed ≡ b.seed → a.clients ≡ b.clients → a.phases ≡ b.phases → a.played ≡ b.played → a.segments ≡ b.segments → a.laid ≡ b.laid
-    → a.xruns ≡ b.xruns → a.sum ≡ b.sum → a ≡ b
-unfolding summary-with
-same-summary a b seed clients phases played segments laid xruns sum = same-numbers a b seed clients phases played segments laid xruns sum
-
 -- ---- the input
 
 -- what is stored is a workload
 stored-workload : (w : Workload) (wavs : List Sound) (text : List ℕ) (before between : Option Files) → wavs ≡ made_sounds w.seed w.clients
     → text ≡ made_text w.clients w.phases → between ≡ option_map (with_input wavs text) before → between ≡ option_map (with_workload w) before
-stored-workload w wavs text before between wavs_are text_is is =
-    is
-    ∙ (ap (λ (sounds : List Sound). option_map (with_input sounds text) before) wavs_are
-    ∙ ap (λ (bytes : List ℕ). option_map (with_input (made_sounds w.seed w.clients) bytes) before) text_is)
+stored-workload w wavs text before between wavs_are text_is is = grind (arith, nat_tests)
 
 -- a workload is stored in part
 pub IsMadePart-before : (w : Workload) (stops : Stops) (wavs : List Sound) (text : List ℕ) (before after : Option Files) (taken : Option (List ℕ))
     → wavs ≡ made_sounds w.seed w.clients → text ≡ made_text w.clients w.phases → InputInPart wavs text before after → IsMadePart w stops before after taken taken
-IsMadePart-before w stops wavs text before after taken wavs_are text_is part =
-    inl (record {
-      files = subst (λ (bytes : List ℕ). InputInPart (made_sounds w.seed w.clients) bytes before after) text_is
-          (subst (λ (sounds : List Sound). InputInPart sounds text before after) wavs_are part);
-      text = refl;
-    })
+IsMadePart-before w stops wavs text before after taken wavs_are text_is part = grind (arith, nat_tests)
 
 -- ---- the run
 
@@ -69,14 +38,7 @@ module _ (w : Workload) (stops : Stops) (input : RunInput) (wavs : List Sound) (
   -- it stopped
   pub IsMadePart-run : (after : Option Files) → ((report : List ℕ) × HasPlayedPart input output_name stops between after (Some []) (Some report))
       → IsMadePart w stops before after taken taken
-  IsMadePart-run after part =
-      inr (inl (record {
-        report = part.0;
-        run = subst (λ (files : Option Files). HasPlayedPart (made_input w) output_name stops files after (Some []) (Some part.0))
-            (stored-workload w wavs text before between wavs_are text_is is_stored)
-            (subst (λ (i : RunInput). HasPlayedPart i output_name stops between after (Some []) (Some part.0)) input_is part.1);
-        text = refl;
-      }))
+  IsMadePart-run after part = grind (arith, nat_tests)
 
   module _ {T : Type 0} (asked : T → T → List StepKind → Pass → Type 0) (gates gates_after : List T) (ran : Option Files) (outcome : Outcome) (report : List ℕ)
       (played : HasPlayedAsking asked gates gates_after input output_name stops outcome between ran (Some []) (Some report)) where
@@ -147,9 +109,7 @@ module _ (w : Workload) (stops : Stops) (input : RunInput) (wavs : List Sound) (
           ∙ ap (made_outcome w) (laws.one (made_script w.clients w.phases) (made_input w).sounds of-workload.session session of-workload.is.session_is session_is)
 
       only-summary : (summary : Summary) → IsSummaryOf w outcome.report outcome.played summary → put.summary ≡ summary
-      only-summary summary other = let own = put.is_summary in same-summary put.summary summary (own.seed_is ∙ sym other.seed_is) (own.clients_are ∙ sym other.clients_are)
-          (own.phases_are ∙ sym other.phases_are) (own.played_is ∙ sym other.played_is) (own.segments_are ∙ sym other.segments_are) (own.laid_is ∙ sym other.laid_is)
-          (own.xruns_are ∙ sym other.xruns_are) (own.sum_is ∙ sym other.sum_is)
+      only-summary summary other = grind (arith, nat_tests)
 
       only-made : HaveNoStops stops → IsOnlyMade w before after taken taken_after
       only-made none = record {

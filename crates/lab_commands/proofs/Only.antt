@@ -1,9 +1,10 @@
 -- A command that is done leaves the only thing that it can leave.
 use Rattle.lab_commands.specs.Prelude.{ap, arith, List, subst, sym, ℕ, ◌++◌, ◌∙◌, ◌≡◌, option_map, Err, None, Ok, Option, Result, Some, Sound, Files}
-use Rattle.lab_commands.specs.Prelude.{Script as ScriptOf, lab_text, Outcome, IsSessionOf, AreUnmixed, Session, Stops, HaveOneSession, Stop, Words, status_of}
+use Rattle.lab_commands.specs.Prelude.{Script as ScriptOf, lab_text, Outcome, IsSessionOf, AreUnmixed, Session, Stops, HaveOneSession, Stop, status_of}
 use Rattle.lab_commands.specs.Prelude.{input_in, RunInput, finished_files, output_files, sounds_of, HasFinished, IsOnlyRun, IsOnlyRunOf, CommandLeaves, OnlyIn}
-use Rattle.lab_commands.specs.Prelude.{check, conf, Form, help, make, refine, run, version}
+use Rattle.lab_commands.specs.Prelude.{conf, Form, make, run}
 use Rattle.lab_report.specs.Text.{report_text}
+use Rattle.lab_stop.specs.declared.stop.Stop.TheVariants.{Words}
 use Rattle.lab_conf.specs.DescribedLaws.{Described-only}
 
 -- each script has one session
@@ -35,11 +36,8 @@ pub DoneIn-only : OneSession → {X : Type 0} (r : Result X Stop) (form : Option
     → CommandLeaves r form gates before after taken taken_after → status_of r ≡ 0 → OnlyIn form gates before after taken taken_after
 DoneIn-only one (Ok x) None gates before after taken taken_after done zero = absurd done
 DoneIn-only one (Ok x) (Some (run script out)) gates before after taken taken_after done zero = Finished-only one script out gates before after taken taken_after done
-DoneIn-only one (Ok x) (Some (check script report out)) gates before after taken taken_after done zero = tt
-DoneIn-only one (Ok x) (Some (refine text)) gates before after taken taken_after done zero = tt
 DoneIn-only one (Ok x) (Some (conf file name)) gates before after taken taken_after done zero = Described-only file name before after taken taken_after done
 DoneIn-only one (Ok x) (Some (make workload)) gates before after taken taken_after done zero = done.only
-DoneIn-only one (Ok x) (Some help) gates before after taken taken_after done zero = tt
-DoneIn-only one (Ok x) (Some version) gates before after taken taken_after done zero = tt
+DoneIn-only one (Ok x) other gates before after taken taken_after done zero = tt
 DoneIn-only one (Err Words) form gates before after taken taken_after done zero = absurd (omega (arith, zero))
 DoneIn-only one (Err other) form gates before after taken taken_after done zero = absurd (omega (arith, zero))

@@ -1,8 +1,9 @@
 -- The names that most proofs of this crate cite, passed on from one place. Declares nothing.
 pub use Rattle.std.proofs.Common.{ap, arith, false, inl, inr, List, map, refl, rules, subst, sym, ℕ, [], ◌++◌, ◌∙◌, ◌∷◌, ◌≡◌, ◌≢◌, ◌⊎◌}
+pub use Rattle.std.proofs.lemmas.Bool.Decides.{nat_tests}
 pub use Rattle.std.proofs.lemmas.Result.{err_from_is_err_and, on_err_weaker, on_ok_weaker}
 pub use Rattle.std.specs.Option.{ForSome, option_map}
-pub use Rattle.std.specs.Prelude.{All, Err, IfErr, is_ok, IsSome, MatchResult, None, not, Ok, OnErr, OnOk, Option, Result, Some, string_bytes, ℤ, ⊤, ◌&&◌}
+pub use Rattle.std.specs.Prelude.{All, Err, IfErr, is_ok, MatchResult, None, not, Ok, OnErr, OnOk, Option, Result, Some, string_bytes, ℤ, ⊤, ◌&&◌}
 pub use Rattle.mix_core.specs.declared.gate.Pass.{Pass}
 pub use Rattle.mix_core.specs.declared.gate.StepKind.{StepKind}
 pub use Rattle.wav_io.specs.Sound.{Sound}
@@ -19,12 +20,11 @@ pub use Rattle.lab_phase.specs.PhaseRuns.{Stops, stops_by}
 pub use Rattle.run_laws.specs.Exact.{IsExactRun, IsOwnRun, IsUnstoppedRun}
 pub use Rattle.run_laws.specs.OneSession.{HaveOneSession}
 pub use Rattle.lab_stop.specs.declared.stop.Stop.{Stop}
-pub use Rattle.lab_stop.specs.declared.stop.Stop.TheVariants.{Conf, Memory, No, Read, Wav, Words, Write}
 pub use Rattle.lab_stop.specs.EndLaws.{EndsOf-answered, EndsOf-written, EndsReliably-answered, EndsReliably-written, InputFaults-other, OnOk-done}
 pub use Rattle.lab_stop.specs.EndLaws.{OutputFaults-other, Refuses-tests, Refuses-written, status_of-most, status_of-read, status_of-written}
 pub use Rattle.lab_stop.specs.FaultLaws.{FetchFaults-only, InputFaults-reads, InputFaults-same, InputFaults-tests, IsWriteKind-only, OutputFaults-after}
 pub use Rattle.lab_stop.specs.FaultLaws.{OutputFaults-kept, OutputFaults-memory, OutputFaults-puts, OutputFaults-reads, OutputFaults-tests, OutputFaults-writes}
-pub use Rattle.lab_stop.specs.Stops.{at_memory, at_output, EndsOf, EndsReliably, InputFaults, IsWriteStop, Refuses, status_of, stop_facts, StopKind}
+pub use Rattle.lab_stop.specs.Stops.{EndsOf, EndsReliably, InputFaults, IsWriteStop, Refuses, status_of, stop_facts}
 pub use Rattle.lab_input.specs.Input.{input_in, RunInput}
 pub use Rattle.lab_input.specs.Read.{input_of}
 pub use Rattle.lab_output.specs.Files.{finished_files, output_files}
@@ -42,5 +42,5 @@ pub use Rattle.lab_commands.specs.Made.{report_name, with_made, with_run_files}
 pub use Rattle.lab_commands.specs.Run.{HasFinished, HasFinishedAsking, IsOnlyRun, IsOnlyRunOf, IsUnfinished}
 pub use Rattle.lab_commands.specs.Top.{AskedIn, cause_in, cause_of, ComesExactly, CommandLeaves, EndsWell, IsConfRefused, IsScriptRefused, LeavesAt, OnlyIn}
 pub use Rattle.lab_commands.specs.Top.{SaysWhy}
-pub use Rattle.lab_commands.specs.Words.{check, conf, Form, form_of, help, make, refine, run, texts, version}
+pub use Rattle.lab_commands.specs.Words.{check, conf, Form, form_of, make, refine, run, texts}
 unfoldable pub use Rattle.lab_commands.specs.Words.{help_text}

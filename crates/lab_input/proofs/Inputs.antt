@@ -1,7 +1,6 @@
 -- What a run reads: its script, the sound that its card captures, and its clients' sounds.
-use Rattle.lab_input.specs.Prelude.{ap, inl, inr, List, subst, sym, ℕ, ◌∙◌, ◌≡◌, ◌⊎◌, ForSome, Err, Ok, Option, Result, Sound, Files, ClientLine, Stop, Cause}
-use Rattle.lab_input.specs.Prelude.{first_bytes, ◌>>=◌, FetchFaults, IsCauseOf, IsScriptStop, Misses, as_script, capture_in, input_in, RunInput, script_in}
-use Rattle.lab_input.specs.Prelude.{sounds_in}
+use Rattle.lab_input.specs.Prelude.{ap, List, subst, sym, ℕ, ◌∙◌, ◌≡◌, ForSome, Err, Ok, Option, Result, Sound, Files, ClientLine, Stop, Cause, first_bytes}
+use Rattle.lab_input.specs.Prelude.{◌>>=◌, FetchFaults, IsCauseOf, IsScriptStop, Misses, as_script, capture_in, input_in, RunInput, script_in, sounds_in}
 use Rattle.lab_lines.specs.declared.script.Script.{Script}
 use Rattle.lab_script.specs.declared.error.ScriptError.{ScriptError}
 use Rattle.lab_script.specs.declared.error.ScriptWhy.{ScriptWhy}
@@ -32,41 +31,11 @@ pub script_in-all : (files : Option Files) (name text spelled : List ℕ) (scrip
 script_in-all files name text spelled script read same is m told =
     script_in-read m name text (read m told) ∙ ap (λ (t : List ℕ). as_script (script_of t)) (sym same) ∙ ap as_script is
 
--- a stop at a text that is refused: for memory, or with the refusal
-abbrev IsRefused : ScriptError → Stop → Result Script ScriptError → Type 0
-IsRefused error stop said = (stop ≡ stops.Memory) ⊎ ((stop ≡ stops.Script error) × (said ≡ Err error))
-
-IsRefused-of : (why : ScriptWhy) (error : ScriptError) (stop : Stop) (said : Result Script ScriptError)
-    → RefusesAt why error said → IsScriptStop why error stop → IsRefused error stop said
-IsRefused-of why.Memory error stop said refuses is = inl is
-IsRefused-of why.Order error stop said refuses is = inr (is, refuses)
-IsRefused-of why.Word error stop said refuses is = inr (is, refuses)
-IsRefused-of why.Missing error stop said refuses is = inr (is, refuses)
-IsRefused-of why.Extra error stop said refuses is = inr (is, refuses)
-IsRefused-of why.Name error stop said refuses is = inr (is, refuses)
-IsRefused-of why.File error stop said refuses is = inr (is, refuses)
-IsRefused-of why.Number error stop said refuses is = inr (is, refuses)
-IsRefused-of why.Range error stop said refuses is = inr (is, refuses)
-IsRefused-of why.KeyTwice error stop said refuses is = inr (is, refuses)
-IsRefused-of why.NameTwice error stop said refuses is = inr (is, refuses)
-IsRefused-of why.TooMany error stop said refuses is = inr (is, refuses)
-IsRefused-of why.Fit error stop said refuses is = inr (is, refuses)
-IsRefused-of why.BindingsEmpty error stop said refuses is = inr (is, refuses)
-IsRefused-of why.BindingsTooMany error stop said refuses is = inr (is, refuses)
-IsRefused-of (why.BindingRange channel) error stop said refuses is = inr (is, refuses)
-IsRefused-of (why.BindingTwice channel) error stop said refuses is = inr (is, refuses)
-IsRefused-of why.Alone error stop said refuses is = inr (is, refuses)
-IsRefused-of why.Unplugged error stop said refuses is = inr (is, refuses)
-IsRefused-of why.Frames error stop said refuses is = inr (is, refuses)
-IsRefused-of why.LapEnd error stop said refuses is = inr (is, refuses)
-IsRefused-of why.Unended error stop said refuses is = inr (is, refuses)
-IsRefused-of why.NoCard error stop said refuses is = inr (is, refuses)
-IsRefused-of why.TooLong error stop said refuses is = inr (is, refuses)
-
-IsRefused-cause : (error : ScriptError) (stop : Stop) (said : Result Script ScriptError)
-    → IsRefused error stop said → IsCauseOf stop (as_script said)
-IsRefused-cause error stop said (inl is) = subst (λ (s : Stop). IsCauseOf s (as_script said)) (sym is) tt
-IsRefused-cause error stop said (inr is) = subst (λ (s : Stop). IsCauseOf s (as_script said)) (sym is.0) (ap as_script is.1)
+-- what holds of a stop for memory, and of the refusal, holds of a stop at a text that is refused
+refused-holds : (holds : Stop → Type 0) (why : ScriptWhy) (error : ScriptError) (stop : Stop) (said : Result Script ScriptError)
+    → holds stops.Memory → (said ≡ Err error → holds (stops.Script error)) → RefusesAt why error said → IsScriptStop why error stop → holds stop
+refused-holds holds why.Memory error stop said memory script refuses is = subst holds (sym is) memory
+refused-holds holds other error stop said memory script refuses is = subst holds (sym is) (script refuses)
 
 -- a stop at a script that is refused is at that cause
 pub script_in-refused : (files : Option Files) (name text spelled : List ℕ) (error : ScriptError) (stop : Stop)
@@ -76,31 +45,21 @@ pub script_in-refused : (files : Option Files) (name text spelled : List ℕ) (e
 script_in-refused files name text spelled error stop read same refuses is m told =
     subst (λ (r : Result Script Cause). IsCauseOf stop r)
     (sym (script_in-read m name text (read m told) ∙ ap (λ (t : List ℕ). as_script (script_of t)) (sym same)))
-    (IsRefused-cause error stop (script_of spelled) (IsRefused-of error.why error stop (script_of spelled) refuses is))
-
-misses_none : {Y : Type 0} (error : ScriptError) (stop : Stop) (said : Result Script ScriptError) (given : Result Y Cause)
-    → IsRefused error stop said → Misses {X = Unit {0}} (Err stop) given
-misses_none {Y} error stop said given (inl is) = subst (λ (s : Stop). Misses {X = Unit {0}} (Err s) given) (sym is) tt
-misses_none {Y} error stop said given (inr is) = subst (λ (s : Stop). Misses {X = Unit {0}} (Err s) given) (sym is.0) tt
-
-faults_none : (error : ScriptError) (stop : Stop) (said : Result Script ScriptError) (before now : ℕ)
-    → IsRefused error stop said → now ≡ before → FetchFaults {X = Unit {0}} (Err stop) before now
-faults_none error stop said before now (inl is) same = subst (λ (s : Stop). FetchFaults {X = Unit {0}} (Err s) before now) (sym is) same
-faults_none error stop said before now (inr is) same = subst (λ (s : Stop). FetchFaults {X = Unit {0}} (Err s) before now) (sym is.0) same
+    (refused-holds (λ (s : Stop). IsCauseOf s (as_script (script_of spelled))) error.why error stop (script_of spelled) tt (ap as_script) refuses is)
 
 -- a stop at a script that is refused is at no missing file
 pub Misses-refused : {Y : Type 0} (error : ScriptError) (stop : Stop) (said : Result Script ScriptError) (given : Result Y Cause)
     → RefusesAt error.why error said → IsScriptStop error.why error stop
     → Misses {X = Unit {0}} (Err stop) given
 Misses-refused {Y} error stop said given refuses is =
-    misses_none error stop said given (IsRefused-of error.why error stop said refuses is)
+    refused-holds (λ (s : Stop). Misses {X = Unit {0}} (Err s) given) error.why error stop said tt (λ e. tt) refuses is
 
 -- a stop at a script that is refused counts no fault
 pub FetchFaults-refused : (error : ScriptError) (stop : Stop) (said : Result Script ScriptError) (before now : ℕ)
     → RefusesAt error.why error said → IsScriptStop error.why error stop
     → now ≡ before → FetchFaults {X = Unit {0}} (Err stop) before now
 FetchFaults-refused error stop said before now refuses is same =
-    faults_none error stop said before now (IsRefused-of error.why error stop said refuses is) same
+    refused-holds (λ (s : Stop). FetchFaults {X = Unit {0}} (Err s) before now) error.why error stop said same (λ e. same) refuses is
 
 -- ---- the sounds
 

@@ -1,10 +1,10 @@
 -- A file that is converted while its pieces come.
-use Rattle.lab_input.specs.Prelude.{ap, append-nil, append_assoc, arith, false, inl, inr, leb, length, List, refl, subst, sym, ℕ, ℤ, [], ◌%◌, ◌*◌, ◌++◌, ◌+◌}
-use Rattle.lab_input.specs.Prelude.{◌<◌, ◌∙◌, ◌≡◌, ◌≤◌, cases_lt, cond-false, cond-true, false_from_ne_true, le-leb, lt-leb, length-append, ForSome, Bool, Err}
+use Rattle.lab_input.specs.Prelude.{ap, append-nil, append_assoc, arith, false, leb, length, List, refl, subst, sym, ℕ, ℤ, [], ◌%◌, ◌*◌, ◌++◌, ◌+◌, ◌<◌, ◌∙◌}
+use Rattle.lab_input.specs.Prelude.{◌≡◌, ◌≤◌, cond-false, cond-true, false_from_ne_true, le-leb, lt-leb, nat_tests, length-append, Vec, ForSome, Bool, Err}
 use Rattle.lab_input.specs.Prelude.{IfSome, IsOk, IsTrue, None, Ok, Option, Result, Some, ◌↔◌, Completes, Continues, HasTakenBytes, IsBeginning, known_of}
-use Rattle.lab_input.specs.Prelude.{plug_of, Stage, WavError, TooLong, IsOfHead, Raw, raw_file, raw_to_come, Reader, with_bytes, most_bytes, Sound, PlugReader}
-use Rattle.lab_input.specs.Prelude.{Shape, IsConverted, IsConverting, IsFed, IsSoFar, conversion_to, converted_file, converted_sound, IsShape, plug_file}
-use Rattle.lab_input.specs.Prelude.{short_enough, sound_file}
+use Rattle.lab_input.specs.Prelude.{plug_of, Stage, WavError, TooLong, error_of, IsOfHead, Raw, raw_file, raw_to_come, Reader, with_bytes, most_bytes, Sound}
+use Rattle.lab_input.specs.Prelude.{PlugReader, Shape, IsConverted, IsConverting, IsFed, IsSoFar, conversion_to, converted_file, converted_sound, IsShape}
+use Rattle.lab_input.specs.Prelude.{plug_file, short_enough, sound_file}
 use Rattle.std.proofs.Math.Nat.{mul-mod_left}
 use Rattle.plug_chain.specs.Frames.{Conversion, frame_count}
 use Rattle.plug_chain.specs.Growth.{Appends}
@@ -24,15 +24,6 @@ with_bytes-few fed bytes (Err e) ok same = absurd (cc)
 pub IsFed-few : (r : PlugReader) (channels rate bits : ℕ) (seen : List ℕ) → (so_far : IsFed r channels rate bits seen) → length (so_far.fed ++ r.body.items) ≤ most_bytes
 IsFed-few r channels rate bits seen so_far = with_bytes-few (so_far.fed ++ r.body.items) (seen ++ []) (raw_to_come r.reader []) so_far.ends (so_far.same [])
 
--- more bytes in front keep the head of an answer
-pub IsOfHead-with_bytes : (channels rate bits : ℕ) (front : List ℕ) (r : Result Raw WavError) → IsOfHead channels rate bits r → IsOfHead channels rate bits (with_bytes front r)
-IsOfHead-with_bytes channels rate bits front (Ok s) is = is
-IsOfHead-with_bytes channels rate bits front (Err e) is = is
-
-pub IsOfHead-behind : (channels rate bits : ℕ) (front : List ℕ) (r : Result Raw WavError) → IsOfHead channels rate bits (with_bytes front r) → IsOfHead channels rate bits r
-IsOfHead-behind channels rate bits front (Ok s) is = is
-IsOfHead-behind channels rate bits front (Err e) is = is
-
 with_bytes-append : (a b : List ℕ) (r : Result Raw WavError) → with_bytes a (with_bytes b r) ≡ with_bytes (a ++ b) r
 with_bytes-append a b (Ok s) = ap (λ (x : List ℕ). Ok (record { channels = s.channels; rate = s.rate; bits = s.bits; body = x })) (sym (append_assoc a b s.body))
 with_bytes-append a b (Err e) = refl
@@ -41,10 +32,7 @@ with_bytes-append a b (Err e) = refl
 
 -- an answer of a head is of the conversion that the head gives
 converted_file-head : (shape : Shape) (channels rate bits : ℕ) (s : Raw) → IsOfHead channels rate bits (Ok s) → conversion_to shape s.channels s.rate s.bits ≡ conversion_to shape channels rate bits
-converted_file-head shape channels rate bits s is =
-    ap (λ (n : ℕ). conversion_to shape n s.rate s.bits) is.0
-    ∙ ap (λ (n : ℕ). conversion_to shape channels n s.bits) is.1
-    ∙ ap (λ (n : ℕ). conversion_to shape channels rate n) is.2
+converted_file-head shape channels rate bits s is = grind (arith, nat_tests)
 
 short_enough-long : (sound : Sound) → most_bytes < 2 * length sound.samples → short_enough sound ≡ Err TooLong
 short_enough-long sound long = cond-false (leb (2 * length sound.samples) most_bytes) _ _ (lt-leb _ _ long)
@@ -118,40 +106,14 @@ IsFed-converted r channels rate bits seen o stage some is kept begins so_far =
 
 pub IsConverted-next : (s : Shape) (reader : Reader) (old new : Stage) (fed body : List ℕ) (samples after : List ℤ) → (is : IsConverted s reader old fed samples) → Continues old new body samples after
     → 2 * length (plug_of old.conversion (fed ++ body)) ≤ most_bytes → IsConverted s reader new (fed ++ body) after
-IsConverted-next s reader old new fed body samples after is goes short =
-    let grown : Appends (known_of old.conversion fed) (known_of old.conversion (fed ++ body)) samples after = goes.appends fed is.taken in
-    record {
-      channels = is.channels;
-      rate = is.rate;
-      bits = is.bits;
-      conversion = goes.conversion ∙ is.conversion;
-      rates = subst (λ (c : Conversion). AreRates c.rates) (sym goes.conversion) is.rates;
-      head = is.head;
-      taken = goes.stage fed is.taken;
-      known = grown.new_is ∙ ap (λ (x : List ℤ). x ++ grown.more) is.known ∙ sym grown.longer_is ∙ ap (λ (c : Conversion). known_of c (fed ++ body)) (sym goes.conversion);
-      short = subst (λ (c : Conversion). 2 * length (plug_of c (fed ++ body)) ≤ most_bytes) (sym goes.conversion) short;
-    }
+IsConverted-next s reader old new fed body samples after is goes short = grind (arith, nat_tests)
 
 -- ---- a piece
 
 -- what is to come keeps the head of the file
 pub IsSoFar-fed : (s : Shape) (old new : Reader) (plug : Option Stage) (piece empty front fed : List ℕ) (samples : List ℤ) → ((more : List ℕ) → with_bytes empty (raw_to_come old (piece ++ more)) ≡ with_bytes front (raw_to_come new more))
     → IsSoFar s old plug fed samples → IsSoFar s new plug fed samples
-IsSoFar-fed s old new None piece empty front fed samples same is = is
-IsSoFar-fed s old new (Some stage) piece empty front fed samples same is = record {
-  channels = is.channels;
-  rate = is.rate;
-  bits = is.bits;
-  conversion = is.conversion;
-  rates = is.rates;
-  head = λ more.
-      IsOfHead-behind is.channels is.rate is.bits front (raw_to_come new more)
-      (subst (λ (r : Result Raw WavError). IsOfHead is.channels is.rate is.bits r) (same more)
-      (IsOfHead-with_bytes is.channels is.rate is.bits empty (raw_to_come old (piece ++ more)) (is.head (piece ++ more))));
-  taken = is.taken;
-  known = is.known;
-  short = is.short;
-}
+IsSoFar-fed s old new plug piece empty front fed samples same is = grind (arith, nat_tests)
 
 with_bytes-nil : (r : Result Raw WavError) → with_bytes [] r ≡ r
 with_bytes-nil (Ok s) = refl
@@ -167,6 +129,22 @@ with_bytes-fed old new seen piece fed empty front file none same more =
     ∙ file (piece ++ more)
     ∙ ap raw_file (sym (append_assoc seen piece more))
 
+-- what is read with a piece more of a file whose head is there
+pub IsFed-next : (old : PlugReader) (reader : Reader) (body : Vec ℕ) (seen piece empty : List ℕ) (channels rate bits : ℕ) → IsConverting old seen → empty ≡ []
+    → ((more : List ℕ) → with_bytes empty (raw_to_come old.reader (piece ++ more)) ≡ with_bytes body.items (raw_to_come reader more)) → error_of reader ≡ None
+    → ((more : List ℕ) → IsOfHead channels rate bits (raw_to_come reader more)) → IsOk (raw_to_come reader [])
+    → IsFed (record old { reader = reader; body = body }) channels rate bits (seen ++ piece)
+IsFed-next old reader body seen piece empty channels rate bits so_far none same no_error head ends = record {
+  fed = so_far.fed;
+  same = with_bytes-fed old.reader reader seen piece so_far.fed empty body.items so_far.same none same;
+  no_error = no_error;
+  taken = so_far.taken;
+  shape = so_far.shape;
+  so_far = IsSoFar-fed old.shape old.reader reader old.plug piece empty body.items so_far.fed old.samples.items same so_far.so_far;
+  head = head;
+  ends = ends;
+}
+
 -- ---- the end
 
 -- the file ends, and is a sound
@@ -180,11 +158,6 @@ plug_file-ended r seen channels rate bits fed samples same ends is short =
     ∙ ap (λ (b : List ℕ). short_enough (converted_sound r.shape (record { channels = channels; rate = rate; bits = bits; body = b }))) (append-nil fed)
     ∙ ap (λ (zs : List ℤ). short_enough (record { channels = r.shape.channels; rate = r.shape.rate; samples = zs })) (sym is)
     ∙ short_enough-short (record { channels = r.shape.channels; rate = r.shape.rate; samples = samples }) short
-
--- the file is refused
-pub plug_file-refused : (r : PlugReader) (seen rest fed : List ℕ) (e : WavError) → ((more : List ℕ) → with_bytes fed (raw_to_come r.reader more) ≡ raw_file (seen ++ more))
-    → raw_to_come r.reader rest ≡ Err e → plug_file r.shape (seen ++ rest) ≡ Err e
-plug_file-refused r seen rest fed e same is = ap (converted_file r.shape) (sym (same rest) ∙ ap (with_bytes fed) is)
 
 -- ---- the samples at the end
 
@@ -205,10 +178,7 @@ ended_is s reader (Some stage) channels rate bits fed samples after shape some s
 
 short_ended : (s : Shape) (reader : Reader) (o : Option Stage) (channels rate bits : ℕ) (fed : List ℕ) (samples after : List ℤ) → IsShape s → 1 ≤ rate → IsSoFar s reader o fed samples
     → IfSome o (λ stage. Completes stage samples after) → (o ≡ None → after ≡ samples) → 2 * length after ≤ most_bytes
-short_ended s reader None channels rate bits fed samples after shape some so_far completes still = omega (arith, ap length (still refl ∙ so_far.1))
-short_ended s reader (Some stage) channels rate bits fed samples after shape some so_far completes still =
-    let grown : Appends (known_of stage.conversion fed) (plug_of stage.conversion fed) samples after = completes fed so_far.taken in
-    omega (arith, so_far.short, ap length (grown.new_is ∙ ap (λ (x : List ℤ). x ++ grown.more) so_far.known ∙ sym grown.longer_is))
+short_ended s reader o channels rate bits fed samples after shape some so_far completes still = grind (arith, nat_tests)
 
 pub IsConverting-ended : (r : PlugReader) (seen : List ℕ) (channels rate bits : ℕ) (after : List ℤ) → 1 ≤ rate → (so_far : IsConverting r seen)
     → IfSome r.plug (λ stage. Completes stage r.samples.items after) → (r.plug ≡ None → after ≡ r.samples.items)
@@ -234,14 +204,7 @@ IsConverting-whole r seen channels rate bits after some so_far completes still e
 -- ---- how long a converted sound is
 
 short_by : (sound other : Sound) → short_enough sound ≡ Ok other → 2 * length other.samples ≤ most_bytes
-short_by sound other is =
-    elim (cases_lt most_bytes (2 * length sound.samples)) [
-      | inl long ↦ absurd (let e : Err TooLong ≡ Ok other = sym (short_enough-long sound long) ∙ is in cc)
-      | inr short ↦
-          let e : Ok sound ≡ Ok other = sym (short_enough-short sound short) ∙ is in
-          let same : sound ≡ other = cc in
-          omega (arith, short, ap (λ (s : Sound). length s.samples) same)
-    ]
+short_by sound other is = grind (arith, nat_tests)
 
 plugged-short : (shape : Shape) (r : Result Raw WavError) (sound : Sound) → converted_file shape r ≡ Ok sound → 2 * length sound.samples ≤ most_bytes
 plugged-short shape (Ok raw) sound is = short_by (converted_sound shape raw) sound is

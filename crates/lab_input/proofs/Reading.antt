@@ -1,9 +1,8 @@
 -- A WAV file that is fetched and read piece by piece.
-use Rattle.lab_input.specs.Prelude.{ap, arith, false, inl, inr, length, List, subst, sym, true, ℕ, [], ◌++◌, ◌+◌, ◌<◌, ◌∙◌, ◌≡◌, ◌≤◌, ◌⊎◌, ForSome, Bool, Err}
-use Rattle.lab_input.specs.Prelude.{Ok, Option, Result, Some, WavError, IsRefusal, most_bytes, Sound, Files, Stop, Cause, content_in, fetched_from, piece_bytes}
-use Rattle.lab_input.specs.Prelude.{wav_refused, ◌>>=◌, IsSameShelf, OnlyReads, FetchFaults, IsCauseOf, IsWavStop, Misses, NamesWav, Shape, FileReader, wav_in}
-use Rattle.lab_input.specs.Prelude.{with_weight, sound_file, weight, IsAfter}
-use Rattle.std.specs.Global.{Vec}
+use Rattle.lab_input.specs.Prelude.{ap, arith, false, inl, inr, length, List, subst, sym, true, ℕ, [], ◌++◌, ◌+◌, ◌<◌, ◌∙◌, ◌≡◌, ◌≤◌, ◌⊎◌, nat_tests, Vec}
+use Rattle.lab_input.specs.Prelude.{ForSome, Bool, Err, Ok, Option, Result, Some, WavError, IsRefusal, most_bytes, Sound, Files, Stop, Cause, content_in}
+use Rattle.lab_input.specs.Prelude.{fetched_from, piece_bytes, wav_refused, ◌>>=◌, IsSameShelf, OnlyReads, IsCauseOf, IsWavStop, Misses, NamesWav, Shape}
+use Rattle.lab_input.specs.Prelude.{FileReader, wav_in, with_weight, sound_file, weight, IsAfter}
 use Rattle.lab_stop.specs.declared.stop.Stop.TheVariants.{Wav, Memory}
 use Rattle.lab_stop.specs.Pieces.{IsFetched, IsBegun, IsFetched-next, IsFetched-rest, whole_refused}
 use Rattle.lab_input.proofs.Long.{sound_file-long, sound_file-refused}
@@ -53,9 +52,7 @@ wav_in-fetched files shape name seen last so_far (inr long) =
 -- a stop that names a file and why it is refused is at that cause
 named_cause : {X : Type 0} (why : WavError) (name : List ℕ) (stop : Stop) (given : Result X Cause)
     → given ≡ Err (wav_refused name why) → NamesWav why name stop → IsCauseOf stop given
-named_cause why name (Wav file because) given so is = let same = is.0 in let alike = is.1 in cc
-named_cause why name Memory given so is = tt
-named_cause why name other given so is = absurd is
+named_cause why name other given so is = grind (arith, nat_tests)
 
 -- a stop at a WAV file that is refused is at that cause
 pub IsCauseOf-refusal : {X : Type 0} (why : WavError) (name : List ℕ) (stop : Stop) (sound : Result Sound WavError) (given : Result X Cause)
@@ -63,55 +60,22 @@ pub IsCauseOf-refusal : {X : Type 0} (why : WavError) (name : List ℕ) (stop : 
     → IsRefusal why sound → IsWavStop why name stop → IsCauseOf stop given
 IsCauseOf-refusal {X} wav_whys.Memory name stop sound given so refusal is =
     subst (λ (s : Stop). IsCauseOf s given) (sym is) tt
-IsCauseOf-refusal wav_whys.NotRiff name stop sound given so refusal is = named_cause wav_whys.NotRiff name stop given (so wav_whys.NotRiff refusal) is
-IsCauseOf-refusal wav_whys.NotWave name stop sound given so refusal is = named_cause wav_whys.NotWave name stop given (so wav_whys.NotWave refusal) is
-IsCauseOf-refusal wav_whys.NoFormat name stop sound given so refusal is = named_cause wav_whys.NoFormat name stop given (so wav_whys.NoFormat refusal) is
-IsCauseOf-refusal wav_whys.FormatTwice name stop sound given so refusal is = named_cause wav_whys.FormatTwice name stop given (so wav_whys.FormatTwice refusal) is
-IsCauseOf-refusal wav_whys.ShortFormat name stop sound given so refusal is = named_cause wav_whys.ShortFormat name stop given (so wav_whys.ShortFormat refusal) is
-IsCauseOf-refusal (wav_whys.Tag n) name stop sound given so refusal is = named_cause (wav_whys.Tag n) name stop given (so (wav_whys.Tag n) refusal) is
-IsCauseOf-refusal (wav_whys.Bits n) name stop sound given so refusal is = named_cause (wav_whys.Bits n) name stop given (so (wav_whys.Bits n) refusal) is
-IsCauseOf-refusal (wav_whys.Channels n) name stop sound given so refusal is = named_cause (wav_whys.Channels n) name stop given (so (wav_whys.Channels n) refusal) is
-IsCauseOf-refusal wav_whys.RateZero name stop sound given so refusal is = named_cause wav_whys.RateZero name stop given (so wav_whys.RateZero refusal) is
-IsCauseOf-refusal wav_whys.NoData name stop sound given so refusal is = named_cause wav_whys.NoData name stop given (so wav_whys.NoData refusal) is
-IsCauseOf-refusal wav_whys.TooLong name stop sound given so refusal is = named_cause wav_whys.TooLong name stop given (so wav_whys.TooLong refusal) is
+IsCauseOf-refusal other name stop sound given so refusal is = named_cause other name stop given (so other refusal) is
 
 -- what holds of a stop that names a file, and of one for memory, holds of each stop at a WAV file that is refused
 NamesWav-only : (holds : Stop → Type 0) (why : WavError) (name : List ℕ) (stop : Stop)
     → ((file : Vec ℕ) (because : WavError) → holds (Wav file because)) → holds Memory → NamesWav why name stop → holds stop
-NamesWav-only holds why name (Wav file because) wav memory is = wav file because
-NamesWav-only holds why name Memory wav memory is = memory
-NamesWav-only holds why name other wav memory is = absurd is
+NamesWav-only holds why name other wav memory is = grind (arith, nat_tests)
 
 IsWavStop-only : (holds : Stop → Type 0) (why : WavError) (name : List ℕ) (stop : Stop)
     → ((file : Vec ℕ) (because : WavError) → holds (Wav file because)) → holds Memory → IsWavStop why name stop → holds stop
 IsWavStop-only holds wav_whys.Memory name stop wav memory is = subst holds (sym is) memory
-IsWavStop-only holds wav_whys.NotRiff name stop wav memory is = NamesWav-only holds wav_whys.NotRiff name stop wav memory is
-IsWavStop-only holds wav_whys.NotWave name stop wav memory is = NamesWav-only holds wav_whys.NotWave name stop wav memory is
-IsWavStop-only holds wav_whys.NoFormat name stop wav memory is = NamesWav-only holds wav_whys.NoFormat name stop wav memory is
-IsWavStop-only holds wav_whys.FormatTwice name stop wav memory is = NamesWav-only holds wav_whys.FormatTwice name stop wav memory is
-IsWavStop-only holds wav_whys.ShortFormat name stop wav memory is = NamesWav-only holds wav_whys.ShortFormat name stop wav memory is
-IsWavStop-only holds (wav_whys.Tag n) name stop wav memory is = NamesWav-only holds (wav_whys.Tag n) name stop wav memory is
-IsWavStop-only holds (wav_whys.Bits n) name stop wav memory is = NamesWav-only holds (wav_whys.Bits n) name stop wav memory is
-IsWavStop-only holds (wav_whys.Channels n) name stop wav memory is = NamesWav-only holds (wav_whys.Channels n) name stop wav memory is
-IsWavStop-only holds wav_whys.RateZero name stop wav memory is = NamesWav-only holds wav_whys.RateZero name stop wav memory is
-IsWavStop-only holds wav_whys.NoData name stop wav memory is = NamesWav-only holds wav_whys.NoData name stop wav memory is
-IsWavStop-only holds wav_whys.TooLong name stop wav memory is = NamesWav-only holds wav_whys.TooLong name stop wav memory is
-
--- it counts no fault of a fetch
-FetchFaults-wav : (why : WavError) (name : List ℕ) (stop : Stop) (before now : ℕ) → IsWavStop why name stop
-    → now ≡ before → FetchFaults {X = Unit {0}} (Err stop) before now
-FetchFaults-wav why name stop before now is same =
-    IsWavStop-only (λ (s : Stop). FetchFaults {X = Unit {0}} (Err s) before now) why name stop (λ file because. same) same is
+IsWavStop-only holds other name stop wav memory is = NamesWav-only holds other name stop wav memory is
 
 -- it changes nothing
 pub OnlyReads-wav : {S X : Type 0} (H : shelves.Ghosts S) (why : WavError) (name : List ℕ) (stop : Stop) (old new : S)
     → IsWavStop why name stop → IsSameShelf H old new → OnlyReads {X = X} H (Err stop) old new
-OnlyReads-wav H why name stop old new is same = record {
-  files = same.files;
-  faults = FetchFaults-wav why name stop (H.fetch_faults old) (H.fetch_faults new) is same.fetch_faults;
-  write_faults = same.write_faults;
-  reliable = same.reliable;
-}
+OnlyReads-wav H why name stop old new is same = grind (arith, nat_tests)
 
 -- it is at no missing file
 pub Misses-wav : {Y : Type 0} (why : WavError) (name : List ℕ) (stop : Stop) (given : Result Y Cause) → IsWavStop why name stop

@@ -1,22 +1,20 @@
 -- A run's files from call to call.
-use Rattle.lab_output.specs.Prelude.{ap, arith, drop, get_or, inl, inr, length, length-append, List, map, None, option_map, refl, Some, subst, suc, sym, take}
-use Rattle.lab_output.specs.Prelude.{zero, ℕ, [], ◌++◌, ◌<◌, ◌∙◌, ◌∷◌, ◌≡◌, ◌≤◌, length-set, set, get_or-set_same, flat_map, option_map_or, All, Err, IfSome}
-use Rattle.lab_output.specs.Prelude.{Ok, OnErr, OnOk, Option, Result, ℤ, sample_bytes, bytes_under, Files, IsPartAppended, IsPartFinished, with_change}
-use Rattle.lab_output.specs.Prelude.{with_file, with_first_bytes, OutputFile, AreApart, finished_file, finished_files, head_of, IsFormOf, MayHold, nothing}
-use Rattle.lab_output.specs.Prelude.{open_file, open_head_of, unfinished_files, AreLonger, closed_files, ClosedInPart, HaveHeadRoom, IsGoingOn, IsPartOf}
+use Rattle.lab_output.specs.Prelude.{ap, arith, drop, get_or, inl, inr, length, List, map, None, option_map, refl, Some, subst, suc, sym, take, zero, ℕ, []}
+use Rattle.lab_output.specs.Prelude.{◌++◌, ◌-◌, ◌<◌, ◌∙◌, ◌∷◌, ◌≡◌, length-set, set, get_or-set_same, get_or_default, length-drop, take_all, on_ok_weaker}
+use Rattle.lab_output.specs.Prelude.{flat_map, option_map_or, All, Err, Ok, OnErr, OnOk, Option, Result, ℤ, sample_bytes, bytes_under, Files, IsPartAppended}
+use Rattle.lab_output.specs.Prelude.{IsPartFinished, with_change, with_file, with_first_bytes, OutputFile, AreApart, finished_file, finished_files, head_of}
+use Rattle.lab_output.specs.Prelude.{MayHold, nothing, open_file, open_head_of, unfinished_files, AreLonger, closed_files, ClosedInPart, IsGoingOn, IsPartOf}
 use Rattle.lab_output.specs.Prelude.{opened_files, OpenedInPart, AreLonger-forms, Into, IsGoingOn-Changes, open_file-more, with_outputs-Changes}
 use Rattle.lab_output.specs.Prelude.{written-Changes}
 use Rattle.lab_shelf.specs.Changes.{Changes, Changes-nothing, Changes-then, Changes-with_file, Changes-part}
-use Rattle.lab_output.proofs.Forms.{length-open_head, AllForms-open, AllForms-finished, IsFormOf-head, IsFormOf-opened, IsFormOf-closing, IsFormOf-finished, MayHold-at, open_file-nothing, finished_file-made}
+use Rattle.lab_output.proofs.Forms.{AllForms-open, AllForms-finished, IsFormOf-head, IsFormOf-closing, IsFormOf-finished, MayHold-at, IsFormOf-open}
 use Rattle.lab_output.proofs.Longer.{longer-at, longer-before, longer-form, longer-length}
 use Rattle.lab_output.proofs.Shelves.{changed-first, changed-output, bytes_under-with_outputs}
 
 -- outputs that were begun have an open head and no sample
 opened_files-begun : (outputs : List OutputFile) (m : Files) → opened_files outputs m ≡ unfinished_files outputs (nothing outputs) m
 opened_files-begun [] m = refl
-opened_files-begun (output ∷ outputs) m =
-    opened_files-begun outputs (with_file m output.name (open_head_of output))
-    ∙ ap (λ (bytes : List ℕ). unfinished_files outputs (nothing outputs) (with_file m output.name bytes)) (sym (open_file-nothing output))
+opened_files-begun (output ∷ outputs) m = opened_files-begun outputs (with_file m output.name (open_head_of output))
 
 -- the same of files that may not be known
 pub opened_where-begun : (outputs : List OutputFile) (before after : Option Files) → after ≡ option_map (opened_files outputs) before
@@ -27,34 +25,24 @@ opened_where-begun outputs (Some m) after is = is ∙ ap Some (opened_files-begu
 -- outputs of which some were begun have changed so
 opened_files-Changes : (may_hold : List ℕ → List ℕ → Type 0) (outputs : List OutputFile) (before after : Option Files)
     → Into outputs (nothing outputs) may_hold → OpenedInPart outputs before after → Changes may_hold before after
-opened_files-Changes may_hold [] before after into is =
-    subst (λ (a : Option Files). Changes may_hold before a) (sym is) (Changes-nothing may_hold before)
+opened_files-Changes may_hold [] before after into is = rw is (Changes-nothing may_hold before)
 opened_files-Changes may_hold (output ∷ outputs) before after into (inl part) =
     Changes-part may_hold before after output.name (open_head_of output)
     (λ k. into output.name (take k (open_head_of output)) (inl (refl, IsFormOf-head output k))) part
 opened_files-Changes may_hold (output ∷ outputs) before after into (inr rest) =
     Changes-then may_hold before (option_map (λ files. with_file files output.name (open_head_of output)) before) after
     (Changes-with_file may_hold before output.name (open_head_of output)
-    (into output.name (open_head_of output) (inl (refl, IsFormOf-opened output))))
+    (into output.name (open_head_of output) (inl (refl, IsFormOf-open output []))))
     (opened_files-Changes may_hold outputs (option_map (λ files. with_file files output.name (open_head_of output)) before) after
     (λ name bytes may. into name bytes (inr may)) rest)
-
--- what begins that fail leave
-pub OpenedInPart-Changes : (outputs : List OutputFile) (before after : Option Files) → OpenedInPart outputs before after
-    → Changes (MayHold outputs (nothing outputs)) before after
-OpenedInPart-Changes outputs before after part =
-    opened_files-Changes (MayHold outputs (nothing outputs)) outputs before after (λ name bytes may. may) part
 
 -- outputs with true heads are finished
 closed_files-stored : (outputs : List OutputFile) (sounds : List (List ℤ)) (m : Files) → AreApart outputs
     → closed_files outputs (map length sounds) (unfinished_files outputs sounds m) ≡ finished_files outputs sounds m
-closed_files-stored [] sounds m apart = refl
-closed_files-stored (output ∷ outputs) [] m apart = refl
 closed_files-stored (output ∷ outputs) (samples ∷ sounds) m apart =
-    ap (closed_files outputs (map length sounds))
-    (changed-first open_file (with_first_bytes (head_of output (length samples))) output outputs samples sounds m apart
-    ∙ ap (λ (bytes : List ℕ). unfinished_files outputs sounds (with_file m output.name bytes)) (finished_file-made output samples))
+    ap (closed_files outputs (map length sounds)) (changed-first open_file (with_first_bytes (head_of output (length samples))) output outputs samples sounds m apart)
     ∙ closed_files-stored outputs sounds (with_file m output.name (finished_file output samples)) apart.1
+closed_files-stored outputs sounds m apart = refl
 
 -- the same of files that may not be known
 closed_where-stored : (outputs : List OutputFile) (sounds : List (List ℤ)) (before : Option Files) → AreApart outputs
@@ -76,35 +64,24 @@ IsGoingOn-stored outputs counts sounds before now after apart going is =
 closed_files-Changes : (may_hold : List ℕ → List ℕ → Type 0) (outputs : List OutputFile) (sounds : List (List ℤ)) (m : Files) (after : Option Files)
     → AreApart outputs → Into outputs sounds may_hold → ClosedInPart outputs (map length sounds) (Some (unfinished_files outputs sounds m)) after
     → Changes may_hold (Some m) after
-closed_files-Changes may_hold [] sounds m after apart into is =
-    subst (λ (a : Option Files). Changes may_hold (Some m) a) (sym is) (Changes-nothing may_hold (Some m))
-closed_files-Changes may_hold (output ∷ outputs) [] m after apart into is =
-    subst (λ (a : Option Files). Changes may_hold (Some m) a) (sym is) (Changes-nothing may_hold (Some m))
 closed_files-Changes may_hold (output ∷ outputs) (samples ∷ sounds) m after apart into (inl (inl same)) =
-    subst (λ (a : Option Files). Changes may_hold (Some m) a) (sym same)
-    (with_outputs-Changes may_hold open_file (output ∷ outputs) (samples ∷ sounds) (samples ∷ sounds) m
-    (AllForms-open (output ∷ outputs) (samples ∷ sounds)) into)
+    rw same (with_outputs-Changes may_hold open_file (output ∷ outputs) (samples ∷ sounds) (samples ∷ sounds) m (AllForms-open (output ∷ outputs) (samples ∷ sounds)) into)
 closed_files-Changes may_hold (output ∷ outputs) (samples ∷ sounds) m after apart into (inl (inr part)) =
     let head : List ℕ = take part.0 (head_of output (length samples)) in
     let bytes : List ℕ = with_first_bytes head (open_file output samples) in
     let is : after ≡ Some (unfinished_files outputs sounds (with_file m output.name bytes)) =
     part.2 ∙ ap Some (changed-first open_file (with_first_bytes head) output outputs samples sounds m apart) in
-    subst (λ (a : Option Files). Changes may_hold (Some m) a) (sym is)
-    (Changes-then may_hold (Some m) (Some (with_file m output.name bytes)) (Some (unfinished_files outputs sounds (with_file m output.name bytes)))
-    (Changes-with_file may_hold (Some m) output.name bytes
-    (into output.name bytes (inl (refl, IsFormOf-closing output samples part.0 part.1))))
-    (with_outputs-Changes may_hold open_file outputs sounds sounds (with_file m output.name bytes) (AllForms-open outputs sounds)
-    (λ name b may. into name b (inr may))))
+    rw is (Changes-then may_hold (Some m) (Some (with_file m output.name bytes)) (Some (unfinished_files outputs sounds (with_file m output.name bytes)))
+    (Changes-with_file may_hold (Some m) output.name bytes (into output.name bytes (inl (refl, IsFormOf-closing output samples part.0 part.1))))
+    (with_outputs-Changes may_hold open_file outputs sounds sounds (with_file m output.name bytes) (AllForms-open outputs sounds) (λ name b may. into name b (inr may))))
 closed_files-Changes may_hold (output ∷ outputs) (samples ∷ sounds) m after apart into (inr rest) =
     let bytes : List ℕ = finished_file output samples in
-    let is : with_change (with_first_bytes (head_of output (length samples))) (unfinished_files (output ∷ outputs) (samples ∷ sounds) m) output.name
-    ≡ unfinished_files outputs sounds (with_file m output.name bytes) =
-    changed-first open_file (with_first_bytes (head_of output (length samples))) output outputs samples sounds m apart
-    ∙ ap (λ (b : List ℕ). unfinished_files outputs sounds (with_file m output.name b)) (finished_file-made output samples) in
     Changes-then may_hold (Some m) (Some (with_file m output.name bytes)) after
     (Changes-with_file may_hold (Some m) output.name bytes (into output.name bytes (inl (refl, IsFormOf-finished output samples))))
     (closed_files-Changes may_hold outputs sounds (with_file m output.name bytes) after apart.1 (λ name b may. into name b (inr may))
-    (subst (λ (f : Files). ClosedInPart outputs (map length sounds) (Some f) after) is rest))
+    (subst (λ (f : Files). ClosedInPart outputs (map length sounds) (Some f) after)
+    (changed-first open_file (with_first_bytes (head_of output (length samples))) output outputs samples sounds m apart) rest))
+closed_files-Changes may_hold outputs sounds m after apart into is = rw is (Changes-nothing may_hold (Some m))
 
 -- no file is known
 closed_files-untold : (may_hold : List ℕ → List ℕ → Type 0) (after : Option Files) → Changes may_hold None after
@@ -117,41 +94,13 @@ pub IsGoingOn-closing : (outputs : List OutputFile) (counts : List ℕ) (sounds 
 IsGoingOn-closing outputs counts sounds None now after apart going part = closed_files-untold (MayHold outputs sounds) after
 IsGoingOn-closing outputs counts sounds (Some m) now after apart going part =
     closed_files-Changes (MayHold outputs sounds) outputs sounds m after apart (λ name bytes may. may)
-    (subst (λ (ns : List ℕ). ClosedInPart outputs ns (Some (unfinished_files outputs sounds m)) after) (sym going.counted)
-    (subst (λ (f : Option Files). ClosedInPart outputs counts f after) going.files part))
+    (rw going.counted (subst (λ (f : Option Files). ClosedInPart outputs counts f after) going.files part))
 
 -- the lengths of samples of which one output has others
 map-length-set : (sounds : List (List ℤ)) (n : ℕ) (samples : List ℤ) → map length (set sounds n samples) ≡ set (map length sounds) n (length samples)
 map-length-set [] n samples = refl
 map-length-set (sound ∷ sounds) zero samples = refl
 map-length-set (sound ∷ sounds) (suc n) samples = ap (λ (ns : List ℕ). length sound ∷ ns) (map-length-set sounds n samples)
-
--- an output to which its new samples were appended
-appended-begun : (outputs : List OutputFile) (sounds : List (List ℤ)) (before : Option Files) (n : ℕ) (output : OutputFile) (samples : List ℤ) (k : ℕ)
-    → AreApart outputs → length sounds ≡ length outputs → n < length outputs → output ≡ get_or outputs n output
-    → get_or sounds n [] ≡ take k samples
-    → option_map (λ files. with_change (λ content. content ++ flat_map sample_bytes (drop k samples)) files output.name) (option_map (unfinished_files outputs sounds) before)
-    ≡ option_map (unfinished_files outputs (set sounds n samples)) before
-appended-begun outputs sounds None n output samples k apart even within is first = refl
-appended-begun outputs sounds (Some m) n output samples k apart even within is first =
-    ap Some (changed-output open_file (λ content. content ++ flat_map sample_bytes (drop k samples)) outputs sounds m n output samples
-    apart even within is (open_file-more output samples (get_or sounds n []) k first))
-
--- a run goes on with the samples that were appended
-pub IsGoingOn-appended : (outputs : List OutputFile) (counts : List ℕ) (sounds : List (List ℤ)) (before now after : Option Files)
-    (n : ℕ) (output : OutputFile) (samples : List ℤ) (k : ℕ)
-    → AreApart outputs → IsGoingOn outputs counts sounds before now → n < length outputs → output ≡ get_or outputs n output
-    → get_or sounds n [] ≡ take k samples
-    → after ≡ option_map (λ files. with_change (λ content. content ++ flat_map sample_bytes (drop k samples)) files output.name) now
-    → IsGoingOn outputs (set counts n (length samples)) (set sounds n samples) before after
-IsGoingOn-appended outputs counts sounds before now after n output samples k apart going within is first appended = record {
-  counted = map-length-set sounds n samples ∙ ap (λ (ns : List ℕ). set ns n (length samples)) going.counted;
-  number = length-set sounds n samples ∙ going.number;
-  files =
-      appended
-      ∙ ap (option_map (λ files. with_change (λ content. content ++ flat_map sample_bytes (drop k samples)) files output.name)) going.files
-      ∙ appended-begun outputs sounds before n output samples k apart going.number within is first;
-}
 
 -- a change of one file, which it may hold
 changed-Changes : (may_hold : List ℕ → List ℕ → Type 0) (make : List ℕ → List ℕ) (m : Files) (name content : List ℕ)
@@ -160,66 +109,20 @@ changed-Changes may_hold make m name content is may =
     subst (λ (o : Option (List ℕ)). Changes may_hold (Some m) (Some (option_map_or (λ c. with_file m name (make c)) o m))) (sym is)
     (Changes-with_file may_hold (Some m) name (make content) may)
 
--- what an append that fails leaves
-part-Changes : (outputs : List OutputFile) (sounds targets : List (List ℤ)) (m : Files) (after : Option Files)
-    (n : ℕ) (output : OutputFile) (samples : List ℤ) (k : ℕ)
-    → AreApart outputs → length sounds ≡ length outputs → n < length outputs → output ≡ get_or outputs n output
-    → get_or sounds n [] ≡ take k samples → AreLonger (set sounds n samples) targets
-    → IsPartAppended (Some (unfinished_files outputs sounds m)) after output.name (flat_map sample_bytes (drop k samples))
-    → Changes (MayHold outputs targets) (Some m) after
-part-Changes outputs sounds targets m after n output samples k apart even within is first longer (inl same) =
-    subst (λ (a : Option Files). Changes (MayHold outputs targets) (Some m) a) (sym same)
-    (written-Changes open_file outputs sounds targets (Some m)
-    (AreLonger-forms outputs sounds targets (longer-before sounds targets n samples k first longer)))
-part-Changes outputs sounds targets m after n output samples k apart even within is first longer (inr part) =
-    let may : List ℕ → List ℕ → Type 0 = MayHold outputs targets in
-    let new : List ℕ = flat_map sample_bytes (drop k samples) in
-    let now : Files = unfinished_files outputs sounds m in
-    let there : IsPartOf samples (get_or targets n []) =
-    subst (λ (s : List ℤ). IsPartOf s (get_or targets n []))
-    (get_or-set_same sounds n samples [] (omega (arith, even, within)))
-    (longer-at (set sounds n samples) targets n longer) in
-    subst (λ (a : Option Files). Changes may (Some m) a) (sym part.1)
-    (Changes-then may (Some m) (Some now) (Some (with_change (λ content. take part.0 (content ++ new)) now output.name))
-    (written-Changes open_file outputs sounds targets (Some m)
-    (AreLonger-forms outputs sounds targets (longer-before sounds targets n samples k first longer)))
-    (changed-Changes may (λ content. take part.0 (content ++ new)) now output.name (open_file output (get_or sounds n []))
-    (bytes_under-with_outputs open_file outputs sounds m n output apart even within is)
-    (MayHold-at outputs targets n output (take part.0 (open_file output (get_or sounds n []) ++ new))
-    (longer-length (set sounds n samples) targets longer ∙ length-set sounds n samples ∙ even) within is
-    (subst (λ (bytes : List ℕ). IsFormOf output (get_or targets n []) (take part.0 bytes))
-    (sym (open_file-more output samples (get_or sounds n []) k first))
-    (longer-form output samples (get_or targets n []) part.0 there)))))
-
--- what an append leaves, whatever it answers
-pub IsGoingOn-part : (outputs : List OutputFile) (counts : List ℕ) (sounds targets : List (List ℤ)) (before now after : Option Files)
-    (n : ℕ) (output : OutputFile) (samples : List ℤ) (k : ℕ)
-    → AreApart outputs → IsGoingOn outputs counts sounds before now → n < length outputs → output ≡ get_or outputs n output
-    → get_or sounds n [] ≡ take k samples → AreLonger (set sounds n samples) targets
-    → IsPartAppended now after output.name (flat_map sample_bytes (drop k samples))
-    → Changes (MayHold outputs targets) before after
-IsGoingOn-part outputs counts sounds targets None now after n output samples k apart going within is first longer part =
-    closed_files-untold (MayHold outputs targets) after
-IsGoingOn-part outputs counts sounds targets (Some m) now after n output samples k apart going within is first longer part =
-    part-Changes outputs sounds targets m after n output samples k apart going.number within is first longer
-    (subst (λ (f : Option Files). IsPartAppended f after output.name (flat_map sample_bytes (drop k samples))) going.files part)
-
 -- the files of a run that is done have changed so
 pub stored-Changes : (outputs : List OutputFile) (sounds : List (List ℤ)) (before after : Option Files)
     → after ≡ option_map (finished_files outputs sounds) before → Changes (MayHold outputs sounds) before after
 stored-Changes outputs sounds before after is =
-    subst (λ (f : Option Files). Changes (MayHold outputs sounds) before f) (sym is)
-    (written-Changes finished_file outputs sounds sounds before (AllForms-finished outputs sounds))
+    rw is (written-Changes finished_file outputs sounds sounds before (AllForms-finished outputs sounds))
 
 -- no sample is counted of outputs that have none
 counted-nothing : (outputs : List OutputFile) (counts : List ℕ) → length counts ≡ length outputs
     → ((k d : ℕ) → k < length counts → get_or counts k d ≡ 0) → map length (nothing outputs) ≡ counts
 counted-nothing [] [] even zeros = refl
-counted-nothing [] (n ∷ counts) even zeros = absurd (omega (arith, even))
-counted-nothing (output ∷ outputs) [] even zeros = absurd (omega (arith, even))
 counted-nothing (output ∷ outputs) (n ∷ counts) even zeros =
     ap (λ (m : ℕ). m ∷ map length (nothing outputs)) (sym (zeros 0 0 (omega arith)))
     ∙ ap (λ (ns : List ℕ). n ∷ ns) (counted-nothing outputs counts (omega (arith, even)) (λ k d within. zeros (suc k) d (omega (arith, within))))
+counted-nothing outputs counts even zeros = absurd (omega (arith, even))
 
 -- so many outputs that have no sample
 length-nothing : (outputs : List OutputFile) → length (nothing outputs) ≡ length outputs
@@ -240,66 +143,32 @@ IsGoingOn-begun outputs counts before after even zeros is = record {
 pub opened_all-Changes : (outputs : List OutputFile) (before after : Option Files) → after ≡ option_map (opened_files outputs) before
     → Changes (MayHold outputs (nothing outputs)) before after
 opened_all-Changes outputs before after is =
-    subst (λ (f : Option Files). Changes (MayHold outputs (nothing outputs)) before f) (sym (opened_where-begun outputs before after is))
-    (written-Changes open_file outputs (nothing outputs) (nothing outputs) before (AllForms-open outputs (nothing outputs)))
-
--- each output has room for a head while a run goes on
-rooms : (outputs : List OutputFile) (sounds : List (List ℤ)) (m : Files) → AreApart outputs → length sounds ≡ length outputs
-    → HaveHeadRoom (Some (unfinished_files outputs sounds m)) outputs
-rooms [] sounds m apart even = tt
-rooms (output ∷ outputs) [] m apart even = absurd (omega (arith, even))
-rooms (output ∷ outputs) (samples ∷ sounds) m apart even = (
-  subst (λ (o : Option (List ℕ)). IfSome o (λ content. 44 ≤ length content))
-      (sym (bytes_under-with_outputs open_file (output ∷ outputs) (samples ∷ sounds) m zero output apart even (omega arith) refl))
-      (room output samples),
-  rooms outputs sounds (with_file m output.name (open_file output samples)) apart.1 (omega (arith, even)),
-)
-  where
-    room : (o : OutputFile) (s : List ℤ) → 44 ≤ length (open_file o s)
-    room o s = omega (arith, length-append (open_head_of o) (flat_map sample_bytes s), length-open_head o)
-
--- no room is asked of files that aren't known
-untold-rooms : (outputs : List OutputFile) → HaveHeadRoom None outputs
-untold-rooms [] = tt
-untold-rooms (output ∷ outputs) = (tt, untold-rooms outputs)
-
--- the same of files that may not be known
-pub IsGoingOn-rooms : (outputs : List OutputFile) (counts : List ℕ) (sounds : List (List ℤ)) (before now : Option Files)
-    → AreApart outputs → IsGoingOn outputs counts sounds before now → HaveHeadRoom now outputs
-IsGoingOn-rooms outputs counts sounds None now apart going =
-    subst (λ (f : Option Files). HaveHeadRoom f outputs) (sym going.files) (untold-rooms outputs)
-IsGoingOn-rooms outputs counts sounds (Some m) now apart going =
-    subst (λ (f : Option Files). HaveHeadRoom f outputs) (sym going.files) (rooms outputs sounds m apart going.number)
+    rw (opened_where-begun outputs before after is) (written-Changes open_file outputs (nothing outputs) (nothing outputs) before (AllForms-open outputs (nothing outputs)))
 
 -- a run begins, where all files were begun
 pub begin-going_on : {T E : Type 0} (result : Result T E) (files outputs : List OutputFile) (counts : List ℕ) (before after : Option Files)
     → files ≡ outputs → length counts ≡ length outputs → All (λ (n : ℕ). n ≡ 0) counts
     → OnOk result (after ≡ option_map (opened_files files) before)
     → OnOk result (IsGoingOn outputs counts (nothing outputs) before after)
-begin-going_on (Ok x) files outputs counts before after same even zeros is =
-    IsGoingOn-begun outputs counts before after even zeros
-    (subst (λ (os : List OutputFile). after ≡ option_map (opened_files os) before) same is)
-begin-going_on (Err e) files outputs counts before after same even zeros is = tt
+begin-going_on result files outputs counts before after same even zeros is =
+    on_ok_weaker result (λ opened. IsGoingOn-begun outputs counts before after even zeros (opened ∙ ap (λ (os : List OutputFile). option_map (opened_files os) before) same)) is
 
 -- what begins leave, whatever they answer
 pub begin-Changes : {T E : Type 0} (result : Result T E) (files outputs : List OutputFile) (before after : Option Files)
     → files ≡ outputs → OnOk result (after ≡ option_map (opened_files files) before) → OnErr result (OpenedInPart files before after)
     → Changes (MayHold outputs (nothing outputs)) before after
-begin-Changes (Ok x) files outputs before after same is part =
-    opened_all-Changes outputs before after (subst (λ (os : List OutputFile). after ≡ option_map (opened_files os) before) same is)
+begin-Changes (Ok x) files outputs before after same is part = opened_all-Changes outputs before after (is ∙ ap (λ (os : List OutputFile). option_map (opened_files os) before) same)
 begin-Changes (Err e) files outputs before after same is part =
-    OpenedInPart-Changes outputs before after (subst (λ (os : List OutputFile). OpenedInPart os before after) same part)
+    opened_files-Changes (MayHold outputs (nothing outputs)) outputs before after (λ name bytes may. may) (subst (λ (os : List OutputFile). OpenedInPart os before after) same part)
 
 -- a run's files are finished, where all finishes worked
 pub finish-stored : {T E : Type 0} (result : Result T E) (files outputs : List OutputFile) (numbers counts : List ℕ) (sounds : List (List ℤ))
     (before now after : Option Files) → files ≡ outputs → numbers ≡ counts → AreApart outputs → IsGoingOn outputs counts sounds before now
     → OnOk result (after ≡ option_map (closed_files files numbers) now)
     → OnOk result (after ≡ option_map (finished_files outputs sounds) before)
-finish-stored (Ok x) files outputs numbers counts sounds before now after same counted apart going is =
-    IsGoingOn-stored outputs counts sounds before now after apart going
-    (subst (λ (ns : List ℕ). after ≡ option_map (closed_files outputs ns) now) counted
-    (subst (λ (os : List OutputFile). after ≡ option_map (closed_files os numbers) now) same is))
-finish-stored (Err e) files outputs numbers counts sounds before now after same counted apart going is = tt
+finish-stored result files outputs numbers counts sounds before now after same counted apart going is =
+    on_ok_weaker result (λ closed. IsGoingOn-stored outputs counts sounds before now after apart going
+    (closed ∙ ap (λ (os : List OutputFile). option_map (closed_files os numbers) now) same ∙ ap (λ (ns : List ℕ). option_map (closed_files outputs ns) now) counted)) is
 
 -- what finishes leave, whatever they answer
 pub finish-Changes : {T E : Type 0} (result : Result T E) (files outputs : List OutputFile) (numbers counts : List ℕ) (sounds : List (List ℤ))
@@ -314,51 +183,94 @@ finish-Changes (Err e) files outputs numbers counts sounds before now after same
     (subst (λ (ns : List ℕ). ClosedInPart outputs ns now after) counted
     (subst (λ (os : List OutputFile). ClosedInPart os numbers now after) same part))
 
--- samples that were put in their places have the numbers of theirs
-pub append-going_on : (outputs : List OutputFile) (counts : List ℕ) (sounds : List (List ℤ)) (before now after : Option Files)
-    (n : ℕ) (output : OutputFile) (samples new : List ℤ)
-    → AreApart outputs → IsGoingOn outputs counts sounds before now → n < length outputs → output ≡ get_or outputs n output
-    → get_or sounds n [] ≡ take (get_or counts n 0) samples → new ≡ drop (get_or counts n 0) samples
-    → after ≡ option_map (λ files. with_change (λ content. content ++ flat_map sample_bytes new) files output.name) now
-    → IsGoingOn outputs (set counts n (length samples)) (set sounds n samples) before after
-append-going_on outputs counts sounds before now after n output samples new apart going within is first rest appended =
-    IsGoingOn-appended outputs counts sounds before now after n output samples (get_or counts n 0) apart going within is first
-    (subst (λ (s : List ℤ). after ≡ option_map (λ files. with_change (λ content. content ++ flat_map sample_bytes s) files output.name) now) rest appended)
+-- new samples are appended to an output of a run that goes on: those after the samples so far
+pub record Appends (outputs : List OutputFile) (counts : List ℕ) (sounds : List (List ℤ)) (before now : Option Files) (n : ℕ) (output : OutputFile) (samples new : List ℤ) : Type 0 where
+  pub apart : AreApart outputs
+  pub going : IsGoingOn outputs counts sounds before now
+  pub within : n < length outputs
+  pub is : output ≡ get_or outputs n output
+  pub first : get_or sounds n [] ≡ take (get_or counts n 0) samples
+  pub rest : new ≡ drop (get_or counts n 0) samples
 
--- what an append leaves that worked
-pub append-Changes : (outputs : List OutputFile) (counts : List ℕ) (sounds targets : List (List ℤ)) (before now after : Option Files)
-    (n : ℕ) (output : OutputFile) (samples new : List ℤ)
-    → AreApart outputs → IsGoingOn outputs counts sounds before now → n < length outputs → output ≡ get_or outputs n output
-    → get_or sounds n [] ≡ take (get_or counts n 0) samples → new ≡ drop (get_or counts n 0) samples
-    → AreLonger (set sounds n samples) targets
-    → after ≡ option_map (λ files. with_change (λ content. content ++ flat_map sample_bytes new) files output.name) now
-    → Changes (MayHold outputs targets) before after
-append-Changes outputs counts sounds targets before now after n output samples new apart going within is first rest longer appended =
-    IsGoingOn-Changes outputs (set counts n (length samples)) (set sounds n samples) targets before after
-    (append-going_on outputs counts sounds before now after n output samples new apart going within is first rest appended) longer
+-- the new samples are a slice, from the number of those so far on
+pub Appends-slice : (outputs : List OutputFile) (counts : List ℕ) (sounds : List (List ℤ)) (before now : Option Files) (n : ℕ) (output : OutputFile) (samples : List ℤ) (from : ℕ)
+    → AreApart outputs → IsGoingOn outputs counts sounds before now → n < length outputs → length counts ≡ length outputs → output ≡ get_or outputs n output
+    → from ≡ get_or counts n from → get_or sounds n [] ≡ take (get_or counts n 0) samples
+    → Appends outputs counts sounds before now n output samples (take (length samples - from) (drop from samples))
+Appends-slice outputs counts sounds before now n output samples from apart going within even is at first = record {
+  apart = apart;
+  going = going;
+  within = within;
+  is = is;
+  first = first;
+  rest = take_all _ _ (omega (arith, length-drop from samples))
+      ∙ ap (λ (k : ℕ). drop k samples) (at ∙ get_or_default counts n from 0 (omega (arith, within, even)));
+}
 
--- what an append leaves that failed
-pub append_part-Changes : (outputs : List OutputFile) (counts : List ℕ) (sounds targets : List (List ℤ)) (before now after : Option Files)
-    (n : ℕ) (output : OutputFile) (samples new : List ℤ)
-    → AreApart outputs → IsGoingOn outputs counts sounds before now → n < length outputs → output ≡ get_or outputs n output
-    → get_or sounds n [] ≡ take (get_or counts n 0) samples → new ≡ drop (get_or counts n 0) samples
-    → AreLonger (set sounds n samples) targets
-    → IsPartAppended now after output.name (flat_map sample_bytes new)
-    → Changes (MayHold outputs targets) before after
-append_part-Changes outputs counts sounds targets before now after n output samples new apart going within is first rest longer part =
-    IsGoingOn-part outputs counts sounds targets before now after n output samples (get_or counts n 0) apart going within is first longer
-    (subst (λ (s : List ℤ). IsPartAppended now after output.name (flat_map sample_bytes s)) rest part)
+module _ (outputs : List OutputFile) (counts : List ℕ) (sounds : List (List ℤ)) (before now after : Option Files) (n : ℕ) (output : OutputFile) (samples new : List ℤ)
+    (a : Appends outputs counts sounds before now n output samples new) where
+  -- the samples so far and the new ones are all
+  more : open_file output (get_or sounds n []) ++ flat_map sample_bytes new ≡ open_file output samples
+  more = rw a.rest (open_file-more output samples (get_or sounds n []) (get_or counts n 0) a.first)
+
+  -- the run goes on with them
+  pub append-going_on : after ≡ option_map (λ files. with_change (λ content. content ++ flat_map sample_bytes new) files output.name) now
+      → IsGoingOn outputs (set counts n (length samples)) (set sounds n samples) before after
+  append-going_on appended = record {
+    counted = map-length-set sounds n samples ∙ ap (λ (ns : List ℕ). set ns n (length samples)) a.going.counted;
+    number = length-set sounds n samples ∙ a.going.number;
+    files = appended ∙ ap (option_map (λ files. with_change (λ content. content ++ flat_map sample_bytes new) files output.name)) a.going.files ∙ at before;
+  }
+    where
+      at : (b : Option Files)
+          → option_map (λ files. with_change (λ content. content ++ flat_map sample_bytes new) files output.name) (option_map (unfinished_files outputs sounds) b)
+          ≡ option_map (unfinished_files outputs (set sounds n samples)) b
+      at None = refl
+      at (Some m) =
+          ap Some (changed-output open_file (λ content. content ++ flat_map sample_bytes new) outputs sounds m n output samples a.apart a.going.number a.within a.is more)
+
+  -- what an append leaves that worked
+  pub append-Changes : (targets : List (List ℤ)) → AreLonger (set sounds n samples) targets
+      → after ≡ option_map (λ files. with_change (λ content. content ++ flat_map sample_bytes new) files output.name) now
+      → Changes (MayHold outputs targets) before after
+  append-Changes targets longer appended =
+      IsGoingOn-Changes outputs (set counts n (length samples)) (set sounds n samples) targets before after (append-going_on appended) longer
+
+  -- what an append leaves that failed
+  pub append_part-Changes : (targets : List (List ℤ)) → AreLonger (set sounds n samples) targets
+      → IsPartAppended now after output.name (flat_map sample_bytes new) → Changes (MayHold outputs targets) before after
+  append_part-Changes targets longer failed =
+      by before (subst (λ (f : Option Files). IsPartAppended f after output.name (flat_map sample_bytes new)) a.going.files failed)
+    where
+      written : (m : Files) → Changes (MayHold outputs targets) (Some m) (Some (unfinished_files outputs sounds m))
+      written m = written-Changes open_file outputs sounds targets (Some m) (AreLonger-forms outputs sounds targets (longer-before sounds targets n samples (get_or counts n 0) a.first longer))
+
+      there : IsPartOf samples (get_or targets n [])
+      there = subst (λ (s : List ℤ). IsPartOf s (get_or targets n []))
+          (get_or-set_same sounds n samples [] (omega (arith, a.going.number, a.within)))
+          (longer-at (set sounds n samples) targets n longer)
+
+      by : (b : Option Files) → IsPartAppended (option_map (unfinished_files outputs sounds) b) after output.name (flat_map sample_bytes new)
+          → Changes (MayHold outputs targets) b after
+      by None part = closed_files-untold (MayHold outputs targets) after
+      by (Some m) (inl same) = rw same (written m)
+      by (Some m) (inr part) =
+          let now : Files = unfinished_files outputs sounds m in
+          rw part.1
+          (Changes-then (MayHold outputs targets) (Some m) (Some now) (Some (with_change (λ content. take part.0 (content ++ flat_map sample_bytes new)) now output.name)) (written m)
+          (changed-Changes (MayHold outputs targets) (λ content. take part.0 (content ++ flat_map sample_bytes new)) now output.name (open_file output (get_or sounds n []))
+          (bytes_under-with_outputs open_file outputs sounds m n output a.apart a.going.number a.within a.is)
+          (MayHold-at outputs targets n output (take part.0 (open_file output (get_or sounds n []) ++ flat_map sample_bytes new))
+          (longer-length (set sounds n samples) targets longer ∙ length-set sounds n samples ∙ a.going.number) a.within a.is
+          (rw more (longer-form output samples (get_or targets n []) part.0 there)))))
 
 -- a head in a file's place, where both are known by other words
 pub named-closed : (now after : Option Files) (n name h head : List ℕ) → n ≡ name → h ≡ head
     → after ≡ option_map (λ files. with_change (with_first_bytes h) files n) now
     → after ≡ option_map (λ files. with_change (with_first_bytes head) files name) now
-named-closed now after n name h head named is closes =
-    subst (λ (b : List ℕ). after ≡ option_map (λ files. with_change (with_first_bytes b) files name) now) is
-    (subst (λ (q : List ℕ). after ≡ option_map (λ files. with_change (with_first_bytes h) files q) now) named closes)
+named-closed now after n name h head named is closes = rw (← named, ← is) closes
 
 -- the same of a head that is there in part
 pub named-part : (now after : Option Files) (n name h head : List ℕ) → n ≡ name → h ≡ head
     → IsPartFinished now after n h → IsPartFinished now after name head
-named-part now after n name h head named is part =
-    subst (λ (b : List ℕ). IsPartFinished now after name b) is (subst (λ (q : List ℕ). IsPartFinished now after q h) named part)
+named-part now after n name h head named is part = rw (← named, ← is) part

@@ -1,68 +1,53 @@
 -- The outputs of a run that goes on are held, so that over a reliable shelf no call finds one missing.
-use Rattle.lab_output.specs.Prelude.{ap, arith, Bool, cond, false, get_or, length, List, None, option_map, refl, Some, subst, sym, true, zero, ℕ, [], ◌<◌, ◌∙◌}
-use Rattle.lab_output.specs.Prelude.{◌∷◌, ◌≡◌, ◌≢◌, All-from_recursion, option_map_or, Err, IfSome, IsErrAnd, IsErrOf, IsSome, Ok, Option, Result, ℤ}
-use Rattle.lab_output.specs.Prelude.{bytes_under, Files, with_change, with_file, OutputFile, AreApart, open_file, unfinished_files, HasFile, HaveFiles}
-use Rattle.lab_output.specs.Prelude.{IsGoingOn}
+use Rattle.lab_output.specs.Prelude.{ap, arith, Bool, cond, drop, false, get_or, length, length-append, List, None, option_map, refl, Some, subst, sym, true, ℕ}
+use Rattle.lab_output.specs.Prelude.{[], ◌<◌, ◌∙◌, ◌∷◌, ◌≡◌, ◌≢◌, ◌≤◌, nat_tests, length-drop, All-from_recursion, AllByRecursion, option_map_or, Err, IfSome}
+use Rattle.lab_output.specs.Prelude.{IsErrAnd, IsErrOf, IsSome, Ok, Option, Result, bytes_under, Files, name_test-Decides, with_change, with_file}
+use Rattle.lab_output.specs.Prelude.{with_first_bytes, OutputFile, HasFile, HasHeadRoom, HaveFiles, HaveHeadRoom}
 use Rattle.lab_shelf.specs.declared.fault.ShelfFault.{ShelfFault}
 use Rattle.lab_shelf.specs.declared.fault.ShelfFault.TheVariants.{Failed}
 use Rattle.lab_stop.specs.declared.stop.Stop.{Stop}
 use Rattle.lab_stop.specs.declared.stop.Stop.TheVariants.{Write}
-use Rattle.lab_output.proofs.Shelves.{bytes_under-with_outputs, bytes_under-with_file_at, test}
+use Rattle.lab_output.proofs.Shelves.{bytes_under-with_file_at, test}
 
--- a file that was written is there, and so are those that were
-written-there : (m : Files) (name bytes q : List ℕ) → IsSome (bytes_under m q) → IsSome (bytes_under (with_file m name bytes) q)
-written-there m name bytes q there =
-    subst (λ (o : Option (List ℕ)). IsSome o) (sym (bytes_under-with_file_at m name bytes q)) (chosen (test q name))
+-- what holds of what is held of a name holds after a change of a file that keeps it
+pub changed-holds : (Q : Option (List ℕ) → Type 0) (make : List ℕ → List ℕ) → ((content : List ℕ) → Q (Some content) → Q (Some (make content)))
+    → (m : Files) (name q : List ℕ) → Q (bytes_under m q) → Q (bytes_under (with_change make m name) q)
+changed-holds Q make keeps m name q has = of (bytes_under m name) refl
   where
-    chosen : (b : Bool) → IsSome (cond b (Some bytes) (bytes_under m q))
-    chosen true = refl
-    chosen false = there
+    chosen : (content : List ℕ) → bytes_under m name ≡ Some content → (b : Bool) → test q name ≡ b → Q (cond b (Some (make content)) (bytes_under m q))
+    chosen content is true same = keeps content (subst Q (ap (bytes_under m) ((name_test-Decides q name).0 same) ∙ is) has)
+    chosen content is false other = has
 
--- a file that changes stays there, and so do the others
-changed-there : (make : List ℕ → List ℕ) (m : Files) (name q : List ℕ) → IsSome (bytes_under m q) → IsSome (bytes_under (with_change make m name) q)
-changed-there make m name q there = of (bytes_under m name)
-  where
-    of : (o : Option (List ℕ)) → IsSome (bytes_under (option_map_or (λ c. with_file m name (make c)) o m) q)
-    of None = there
-    of (Some c) = written-there m name (make c) q there
+    of : (o : Option (List ℕ)) → bytes_under m name ≡ o → Q (bytes_under (option_map_or (λ c. with_file m name (make c)) o m) q)
+    of None is = has
+    of (Some content) is = subst Q (sym (bytes_under-with_file_at m name (make content) q)) (chosen content is (test q name) refl)
 
--- the same of files that may not be known
-changed-file : (make : List ℕ → List ℕ) (now : Option Files) (name q : List ℕ) → HasFile now q
-    → HasFile (option_map (λ files. with_change make files name) now) q
-changed-file make None name q there = there
-changed-file make (Some m) name q there = changed-there make m name q there
+-- the same of each output, where the files may not be known
+each-changed : (H : Option Files → List ℕ → Type 0) (make : List ℕ → List ℕ) (name : List ℕ)
+    → ((m : Files) (q : List ℕ) → H (Some m) q → H (Some (with_change make m name)) q) → (outputs : List OutputFile) (now : Option Files)
+    → AllByRecursion (λ (o : OutputFile). H now o.name) outputs → AllByRecursion (λ (o : OutputFile). H (option_map (λ files. with_change make files name) now) o.name) outputs
+each-changed H make name keeps outputs None has = has
+each-changed H make name keeps [] (Some m) has = tt
+each-changed H make name keeps (output ∷ outputs) (Some m) has = (keeps m output.name has.0, each-changed H make name keeps outputs (Some m) has.1)
 
--- the same of each output
+-- each output that is there stays there
 pub changed-files : (make : List ℕ → List ℕ) (outputs : List OutputFile) (now : Option Files) (name : List ℕ) → HaveFiles now outputs
     → HaveFiles (option_map (λ files. with_change make files name) now) outputs
-changed-files make [] now name there = tt
-changed-files make (output ∷ outputs) now name there =
-    (changed-file make now name output.name there.0, changed-files make outputs now name there.1)
+changed-files make outputs now name there =
+    each-changed HasFile make name (λ m q. changed-holds (λ (o : Option (List ℕ)). IsSome o) make (λ content is. refl) m name q) outputs now there
 
--- the file of an output at a place
-pub file-at : (now : Option Files) (outputs : List OutputFile) (n : ℕ) (output : OutputFile) → HaveFiles now outputs
-    → n < length outputs → output ≡ get_or outputs n output → HasFile now output.name
-file-at now outputs n output there within is =
-    subst (λ (o : OutputFile). HasFile now o.name) (sym is)
-    (All-from_recursion (λ (o : OutputFile). HasFile now o.name) outputs there n output within)
+-- room for a head in each output stays
+pub changed-rooms : (head : List ℕ) (outputs : List OutputFile) (now : Option Files) (name : List ℕ) → HaveHeadRoom now outputs
+    → HaveHeadRoom (option_map (λ files. with_change (with_first_bytes head) files name) now) outputs
+changed-rooms head outputs now name rooms =
+    each-changed HasHeadRoom (with_first_bytes head) name
+    (λ m q. changed-holds (λ (o : Option (List ℕ)). IfSome o (λ content. 44 ≤ length content)) (with_first_bytes head)
+    (λ content room. omega (arith, room, length-append head (drop (length head) content), length-drop (length head) content)) m name q) outputs now rooms
 
--- each output that was begun is there
-begun-there : (outputs : List OutputFile) (sounds : List (List ℤ)) (m : Files) → AreApart outputs → length sounds ≡ length outputs
-    → HaveFiles (Some (unfinished_files outputs sounds m)) outputs
-begun-there [] sounds m apart even = tt
-begun-there (output ∷ outputs) [] m apart even = absurd (omega (arith, even))
-begun-there (output ∷ outputs) (samples ∷ sounds) m apart even = (
-  subst (λ (o : Option (List ℕ)). IsSome o)
-      (sym (bytes_under-with_outputs open_file (output ∷ outputs) (samples ∷ sounds) m zero output apart even (omega arith) refl)) refl,
-  begun-there outputs sounds (with_file m output.name (open_file output samples)) apart.1 (omega (arith, even)),
-)
-
--- while a run goes on whose files are known, each output is there
-pub IsGoingOn-there : (outputs : List OutputFile) (counts : List ℕ) (sounds : List (List ℤ)) (before now : Option Files)
-    → AreApart outputs → IsGoingOn outputs counts sounds before now → IsSome before → HaveFiles now outputs
-IsGoingOn-there outputs counts sounds None now apart going told = absurd cc
-IsGoingOn-there outputs counts sounds (Some m) now apart going told =
-    subst (λ (f : Option Files). HaveFiles f outputs) (sym going.files) (begun-there outputs sounds m apart going.number)
+-- what holds of each output holds of the one at a place
+pub output-at : (H : OutputFile → Type 0) (outputs : List OutputFile) (n : ℕ) (output : OutputFile) → AllByRecursion H outputs
+    → n < length outputs → output ≡ get_or outputs n output → H output
+output-at H outputs n output each within is = subst H (sym is) (All-from_recursion H outputs each n output within)
 
 -- a call is no failed write
 abbrev NoWrite : (X : Type 0) → Result X Stop → Type 0
@@ -77,7 +62,4 @@ no-write Y (Err e) stop passed other is = other (let write : e ≡ Write = cc in
 -- a call that fails only where a file is missing doesn't fail where it is there
 pub no-failure : (files : Option Files) (name : List ℕ) (end : Result (Unit {0}) ShelfFault)
     → (IsErrOf end Failed → IfSome files (λ m. bytes_under m name ≡ None)) → HasFile files name → end ≢ Err Failed
-no-failure None name end missing there failed = absurd there
-no-failure (Some m) name end missing there failed =
-    let none : bytes_under m name ≡ None = missing failed in
-    absurd cc
+no-failure files name end missing there failed = grind (arith, nat_tests)

@@ -22,29 +22,27 @@ part-shorter sound other target k is (j, part) =
 -- there are as many outputs
 pub longer-length : (sounds targets : List (List ℤ)) → AreLonger sounds targets → length targets ≡ length sounds
 longer-length [] [] longer = refl
-longer-length [] (target ∷ targets) longer = absurd longer
-longer-length (sound ∷ sounds) [] longer = absurd longer
 longer-length (sound ∷ sounds) (target ∷ targets) longer = ap suc (longer-length sounds targets longer.1)
+longer-length sounds targets longer = absurd longer
 
 -- the samples of one of them
 pub longer-at : (sounds targets : List (List ℤ)) (n : ℕ) → AreLonger sounds targets
     → IsPartOf (get_or sounds n []) (get_or targets n [])
 longer-at [] [] n longer = (0, refl)
-longer-at [] (target ∷ targets) n longer = absurd longer
-longer-at (sound ∷ sounds) [] n longer = absurd longer
 longer-at (sound ∷ sounds) (target ∷ targets) zero longer = longer.0
 longer-at (sound ∷ sounds) (target ∷ targets) (suc n) longer = longer-at sounds targets n longer.1
+longer-at sounds targets n longer = absurd longer
 
 -- outputs of which one had fewer samples
 pub longer-before : (sounds targets : List (List ℤ)) (n : ℕ) (samples : List ℤ) (k : ℕ) → get_or sounds n [] ≡ take k samples
     → AreLonger (set sounds n samples) targets → AreLonger sounds targets
 longer-before [] targets n samples k is longer = longer
-longer-before (sound ∷ sounds) [] zero samples k is longer = absurd longer
-longer-before (sound ∷ sounds) [] (suc n) samples k is longer = absurd longer
 longer-before (sound ∷ sounds) (target ∷ targets) zero samples k is longer =
     (part-shorter sound samples target k is longer.0, longer.1)
 longer-before (sound ∷ sounds) (target ∷ targets) (suc n) samples k is longer =
     (longer.0, longer-before sounds targets n samples k is longer.1)
+longer-before (sound ∷ sounds) [] zero samples k is longer = absurd longer
+longer-before (sound ∷ sounds) [] (suc n) samples k is longer = absurd longer
 
 -- the first of an output's bytes are one of the forms of the output with more samples
 pub longer-form : (output : OutputFile) (samples target : List ℤ) (j : ℕ) → IsPartOf samples target

@@ -1,6 +1,6 @@
 -- What writes to a run's files leave: of the files as they were before, and of each output its samples.
 use Rattle.lab_output.specs.Prelude.{ap, arith, Bool, cond, false, get_or, length, List, None, option_map, refl, Some, subst, suc, sym, true, zero, ℕ, [], ◌++◌}
-use Rattle.lab_output.specs.Prelude.{◌<◌, ◌∙◌, ◌∷◌, ◌≡◌, ◌≢◌, set, append-nil, AllByRecursion, option_map_or, Option, ℤ, bytes_under}
+use Rattle.lab_output.specs.Prelude.{◌<◌, ◌∙◌, ◌∷◌, ◌≡◌, ◌≢◌, set, nat_tests, append-nil, AllByRecursion, option_map_or, Option, ℤ, bytes_under}
 use Rattle.lab_output.specs.Prelude.{bytes_under-with_file_other, bytes_under-with_file_same, Files, name_test-Decides, with_change, with_file, OutputFile}
 use Rattle.lab_output.specs.Prelude.{AreApart, with_outputs}
 use Rattle.std.specs.Cmp.Lexicographic.{slice_cmp, nat_list_cmp_total}
@@ -26,10 +26,7 @@ later false x y z = refl
 
 -- answers of which at most one is given
 either : {X : Type 0} (a b : Bool) (x y z : X) → (a ≡ true → b ≡ true → ⊥) → cond b y (cond a x z) ≡ cond a x (cond b y z)
-either true true x y z never = absurd (never refl refl)
-either true false x y z never = refl
-either false true x y z never = refl
-either false false x y z never = refl
+either a b x y z never = grind (arith, nat_tests)
 
 -- a file that is written twice holds what was written last
 twice : (m : Files) (name a b : List ℕ) → with_file (with_file m name a) name b ≡ with_file m name b
@@ -73,11 +70,10 @@ changed-other make m name other bytes apart =
 changed-outside : (form : OutputFile → List ℤ → List ℕ) (make : List ℕ → List ℕ) (outputs : List OutputFile) (sounds : List (List ℤ)) (m : Files) (name : List ℕ)
     → AllByRecursion (λ (other : OutputFile). name ≢ other.name) outputs
     → with_change make (with_outputs form outputs sounds m) name ≡ with_outputs form outputs sounds (with_change make m name)
-changed-outside form make [] sounds m name apart = refl
-changed-outside form make (output ∷ outputs) [] m name apart = refl
 changed-outside form make (output ∷ outputs) (samples ∷ sounds) m name apart =
     changed-outside form make outputs sounds (with_file m output.name (form output samples)) name apart.1
     ∙ ap (with_outputs form outputs sounds) (changed-other make m name output.name (form output samples) apart.0)
+changed-outside form make outputs sounds m name apart = refl
 
 -- a change of the first output
 pub changed-first : (form : OutputFile → List ℤ → List ℕ) (make : List ℕ → List ℕ) (output : OutputFile) (outputs : List OutputFile)
@@ -93,8 +89,6 @@ pub changed-output : (form : OutputFile → List ℤ → List ℕ) (make : List 
     (n : ℕ) (output : OutputFile) (samples : List ℤ) → AreApart outputs → length sounds ≡ length outputs → n < length outputs
     → output ≡ get_or outputs n output → make (form output (get_or sounds n [])) ≡ form output samples
     → with_change make (with_outputs form outputs sounds m) output.name ≡ with_outputs form outputs (set sounds n samples) m
-changed-output form make [] sounds m n output samples apart even within is makes = absurd (omega (arith, within))
-changed-output form make (first ∷ outputs) [] m n output samples apart even within is makes = absurd (omega (arith, even))
 changed-output form make (first ∷ outputs) (sound ∷ sounds) m zero output samples apart even within is makes =
     ap (λ (o : OutputFile). with_change make (with_outputs form (first ∷ outputs) (sound ∷ sounds) m) o.name) is
     ∙ changed-first form make first outputs sound sounds m apart
@@ -103,24 +97,22 @@ changed-output form make (first ∷ outputs) (sound ∷ sounds) m zero output sa
 changed-output form make (first ∷ outputs) (sound ∷ sounds) m (suc n) output samples apart even within is makes =
     changed-output form make outputs sounds (with_file m first.name (form first sound)) n output samples apart.1
     (omega (arith, even)) (omega (arith, within)) is makes
+changed-output form make outputs sounds m n output samples apart even within is makes = absurd (omega (arith, within, even))
 
 -- a name that is none of the outputs' holds what it held
 bytes_under-with_outputs_apart : (form : OutputFile → List ℤ → List ℕ) (outputs : List OutputFile) (sounds : List (List ℤ)) (m : Files) (name : List ℕ)
     → AllByRecursion (λ (other : OutputFile). name ≢ other.name) outputs
     → bytes_under (with_outputs form outputs sounds m) name ≡ bytes_under m name
-bytes_under-with_outputs_apart form [] sounds m name apart = refl
-bytes_under-with_outputs_apart form (output ∷ outputs) [] m name apart = refl
 bytes_under-with_outputs_apart form (output ∷ outputs) (samples ∷ sounds) m name apart =
     bytes_under-with_outputs_apart form outputs sounds (with_file m output.name (form output samples)) name apart.1
     ∙ bytes_under-with_file_other m output.name (form output samples) name apart.0
+bytes_under-with_outputs_apart form outputs sounds m name apart = refl
 
 -- what is held of an output
 pub bytes_under-with_outputs : (form : OutputFile → List ℤ → List ℕ) (outputs : List OutputFile) (sounds : List (List ℤ)) (m : Files)
     (n : ℕ) (output : OutputFile) → AreApart outputs → length sounds ≡ length outputs → n < length outputs
     → output ≡ get_or outputs n output
     → bytes_under (with_outputs form outputs sounds m) output.name ≡ Some (form output (get_or sounds n []))
-bytes_under-with_outputs form [] sounds m n output apart even within is = absurd (omega (arith, within))
-bytes_under-with_outputs form (first ∷ outputs) [] m n output apart even within is = absurd (omega (arith, even))
 bytes_under-with_outputs form (first ∷ outputs) (sound ∷ sounds) m zero output apart even within is =
     ap (λ (o : OutputFile). bytes_under (with_outputs form (first ∷ outputs) (sound ∷ sounds) m) o.name) is
     ∙ bytes_under-with_outputs_apart form outputs sounds (with_file m first.name (form first sound)) first.name apart.0
@@ -129,6 +121,7 @@ bytes_under-with_outputs form (first ∷ outputs) (sound ∷ sounds) m zero outp
 bytes_under-with_outputs form (first ∷ outputs) (sound ∷ sounds) m (suc n) output apart even within is =
     bytes_under-with_outputs form outputs sounds (with_file m first.name (form first sound)) n output apart.1
     (omega (arith, even)) (omega (arith, within)) is
+bytes_under-with_outputs form outputs sounds m n output apart even within is = absurd (omega (arith, within, even))
 
 -- a file to which nothing is appended holds what it held
 same-written : (m : Files) (name content : List ℕ) → bytes_under m name ≡ Some content → with_file m name (content ++ []) ≡ m

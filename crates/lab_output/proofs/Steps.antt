@@ -1,12 +1,10 @@
 -- A run's files one after the other.
-use Rattle.lab_output.specs.Prelude.{add-one, ap, arith, Bool, cond, drop, false, get_or, inl, inr, length, length-append, List, None, option_map, refl, Some}
-use Rattle.lab_output.specs.Prelude.{subst, suc, sym, true, ℕ, [], ◌+◌, ◌<◌, ◌∙◌, ◌∷◌, ◌≡◌, ◌≤◌, drop_of_length-le, drop-cons, length-drop, All-from_recursion}
-use Rattle.lab_output.specs.Prelude.{option_map_or, IfSome, Option, bytes_under, Files, IsPartFinished, IsPartWritten, with_change, with_file, with_first_bytes}
-use Rattle.lab_output.specs.Prelude.{CountsNoFault-then, OutputFile, head_of, open_head_of, closed_files, ClosedInPart, HasHeadRoom, HaveFiles, HaveHeadRoom}
-use Rattle.lab_output.specs.Prelude.{opened_files, OpenedInPart}
+use Rattle.lab_output.specs.Prelude.{add-one, ap, arith, drop, get_or, inl, inr, length, List, None, option_map, refl, Some, subst, suc, sym, ℕ, [], ◌+◌, ◌<◌}
+use Rattle.lab_output.specs.Prelude.{◌∙◌, ◌∷◌, ◌≡◌, ◌≤◌, drop_of_length-le, drop-cons, Option, Files, IsPartFinished, IsPartWritten, with_change, with_file}
+use Rattle.lab_output.specs.Prelude.{with_first_bytes, CountsNoFault-then, OutputFile, head_of, open_head_of, closed_files, ClosedInPart, HaveFiles}
+use Rattle.lab_output.specs.Prelude.{HaveHeadRoom, opened_files, OpenedInPart}
 use Rattle.lab_stop.specs.Effects.{CountsNoFault}
-use Rattle.lab_output.proofs.Held.{changed-files}
-use Rattle.lab_output.proofs.Shelves.{bytes_under-with_file_at, test}
+use Rattle.lab_output.proofs.Held.{changed-files, changed-rooms}
 use Rattle.lab_shelf.specs.declared.traits.Shelf as shelves
 
 -- the first files are begun, and what is left to do does all
@@ -97,53 +95,6 @@ closed_files-none : (counts : List ℕ) (now : Option Files) → option_map (clo
 closed_files-none counts None = refl
 closed_files-none counts (Some m) = refl
 
--- a head in the place of the first bytes leaves room
-overwritten-room : (head content : List ℕ) → 44 ≤ length content → 44 ≤ length (with_first_bytes head content)
-overwritten-room head content room =
-    omega (arith, room, length-append head (drop (length head) content), length-drop (length head) content)
-
--- what is held of a name once a file was written there is room in
-written-room : (m : Files) (name bytes q : List ℕ) → 44 ≤ length bytes → IfSome (bytes_under m q) (λ content. 44 ≤ length content)
-    → IfSome (bytes_under (with_file m name bytes) q) (λ content. 44 ≤ length content)
-written-room m name bytes q room before =
-    subst (λ (o : Option (List ℕ)). IfSome o (λ content. 44 ≤ length content)) (sym (bytes_under-with_file_at m name bytes q)) (chosen (test q name))
-  where
-    chosen : (b : Bool) → IfSome (cond b (Some bytes) (bytes_under m q)) (λ content. 44 ≤ length content)
-    chosen true = room
-    chosen false = before
-
--- a file's new head leaves room in each file
-changed-room : (m : Files) (name head q : List ℕ)
-    → IfSome (bytes_under m name) (λ content. 44 ≤ length content) → IfSome (bytes_under m q) (λ content. 44 ≤ length content)
-    → IfSome (bytes_under (with_change (with_first_bytes head) m name) q) (λ content. 44 ≤ length content)
-changed-room m name head q named before = of (bytes_under m name) named
-  where
-    of : (o : Option (List ℕ)) → IfSome o (λ content. 44 ≤ length content)
-        → IfSome (bytes_under (option_map_or (λ c. with_file m name (with_first_bytes head c)) o m) q) (λ content. 44 ≤ length content)
-    of None room = before
-    of (Some c) room = written-room m name (with_first_bytes head c) q (overwritten-room head c room) before
-
--- the same of each output
-changed-rooms : (outputs : List OutputFile) (m : Files) (name head : List ℕ)
-    → IfSome (bytes_under m name) (λ content. 44 ≤ length content) → HaveHeadRoom (Some m) outputs
-    → HaveHeadRoom (Some (with_change (with_first_bytes head) m name)) outputs
-changed-rooms [] m name head named rooms = tt
-changed-rooms (output ∷ outputs) m name head named rooms =
-    (changed-room m name head output.name named rooms.0, changed-rooms outputs m name head named rooms.1)
-
--- the same of files that may not be known
-kept-rooms : (outputs : List OutputFile) (now : Option Files) (name head : List ℕ) → HasHeadRoom now name → HaveHeadRoom now outputs
-    → HaveHeadRoom (option_map (λ files. with_change (with_first_bytes head) files name) now) outputs
-kept-rooms outputs None name head named rooms = rooms
-kept-rooms outputs (Some m) name head named rooms = changed-rooms outputs m name head named rooms
-
--- there is room for the head at a place
-pub room-at : (now : Option Files) (outputs : List OutputFile) (n : ℕ) (output : OutputFile) → HaveHeadRoom now outputs
-    → n < length outputs → output ≡ get_or outputs n output → HasHeadRoom now output.name
-room-at now outputs n output rooms within is =
-    subst (λ (o : OutputFile). HasHeadRoom now o.name) (sym is)
-    (All-from_recursion (λ (o : OutputFile). HasHeadRoom now o.name) outputs rooms n output within)
-
 -- the next file gets its true head
 pub Closing-next : {S : Type 0} (H : shelves.Ghosts S) (before now then : S) (outputs : List OutputFile) (samples : List ℕ) (n : ℕ)
     (output : OutputFile) (count : ℕ) → Closing H before now outputs samples n
@@ -164,10 +115,8 @@ Closing-next H before now then outputs samples n output count so_far within even
           (subst (λ (os : List OutputFile). ClosedInPart os (drop n samples) (H.files now) after) (sym here)
           (subst (λ (cs : List ℕ). ClosedInPart (output ∷ drop (n + 1) outputs) cs (H.files now) after) (sym count_here)
           (inr (subst (λ (f : Option Files). ClosedInPart (drop (n + 1) outputs) (drop (n + 1) samples) f after) closes part))));
-      rooms = subst (λ (f : Option Files). HaveHeadRoom f outputs) (sym closes)
-          (kept-rooms outputs (H.files now) output.name (head_of output count) (room-at (H.files now) outputs n output so_far.rooms within is) so_far.rooms);
-      there = λ there. subst (λ (f : Option Files). HaveFiles f outputs) (sym closes)
-          (changed-files (with_first_bytes (head_of output count)) outputs (H.files now) output.name (so_far.there there));
+      rooms = rw closes (changed-rooms (head_of output count) outputs (H.files now) output.name so_far.rooms);
+      there = λ there. rw closes (changed-files (with_first_bytes (head_of output count)) outputs (H.files now) output.name (so_far.there there));
       counts = CountsNoFault-then H before now then so_far.counts counts;
     }
 

@@ -2,8 +2,9 @@
 pub use Rattle.std.proofs.Common.{add-one, ap, append_assoc, arith, Bool, cond, drop, false, get_or, inl, inr, length, length-append, List, map, None}
 pub use Rattle.std.proofs.Common.{option_map, refl, rules, Some, subst, suc, sym, take, true, zero, ℕ, [], ◌++◌, ◌+◌, ◌-◌, ◌/◌, ◌<◌, ◌∙◌, ◌∷◌, ◌≡◌, ◌≢◌, ◌≤◌}
 pub use Rattle.std.proofs.Math.ListN.{drop_of_length-le, length-set, set}
-pub use Rattle.std.proofs.Math.Seq.{drop-append_seam, drop-cons, take-append_seam, take-length}
+pub use Rattle.std.proofs.Math.Seq.{drop-cons, take-append_seam, take-length}
 pub use Rattle.std.proofs.lemmas.Bool.{eqb-true}
+pub use Rattle.std.proofs.lemmas.Bool.Decides.{nat_tests}
 pub use Rattle.std.proofs.lemmas.List.{append-nil, append_cancel_left, append_cancel_right, drop-append-le, get_or-set_same, get_or_default, length-drop}
 pub use Rattle.std.proofs.lemmas.List.{length-take, length-take-le, nil_from_length, take-take, take_all, take_min}
 pub use Rattle.std.proofs.lemmas.List.Elements.{All-drop, All-from_recursion, All-same, All-take, recursion_from_All}

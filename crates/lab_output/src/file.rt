@@ -1,7 +1,7 @@
 //! The files that a run writes.
-ghost use Rattle.std.specs.Prelude.{◌≡◌, ◌++◌, IfErr, IfOk, OnOk, length, map};
+ghost use Rattle.std.specs.Prelude.{◌≡◌, IfErr, IfOk};
 ghost use Rattle.lab_lines.specs.Limits.{IsScript};
-ghost use Rattle.lab_output.specs.Files.{AreApart, IsOutputFile, output_files, played_file, played_name, recorded_file, recorded_name, reader_channels};
+ghost use Rattle.lab_output.specs.Files.{output_files, played_file, recorded_file, reader_channels};
 ghost use Rattle.lab_stop.specs.declared.stop.Stop.TheVariants as stops;
 
 use bindings::Bindings;
@@ -51,26 +51,6 @@ pub struct OutputFile {
     pub rate: u32,
 }
 
-/// The name of the file with what the card played.
-fn played_name(alloc: Global, out: &[u8]) -> Result<OutputName, AllocError>
-    ensures { IfOk result (λ name. name ≡ played_name out.now) }
-{
-    let mut bytes = Vec::from_slice(alloc, out)?;
-    bytes.extend_from_slice(b".wav")?;
-    Ok(OutputName::from_vec(bytes))
-}
-
-/// The name of the file with what the reader of this name took.
-fn recorded_name(alloc: Global, out: &[u8], name: &[u8]) -> Result<OutputName, AllocError>
-    ensures { IfOk result (λ file. file ≡ recorded_name out.now name.now) }
-{
-    let mut bytes = Vec::from_slice(alloc, out)?;
-    bytes.push(b'.')?;
-    bytes.extend_from_slice(name)?;
-    bytes.extend_from_slice(b".wav")?;
-    Ok(OutputName::from_vec(bytes))
-}
-
 /// How many channels a reader has: those that its bindings name, or all of the card.
 fn reader_channels(card: &CardLine, bindings: &Option<Bindings>) -> u16
     ensures { result ≡ reader_channels card.now bindings.now }
@@ -85,8 +65,10 @@ fn reader_channels(card: &CardLine, bindings: &Option<Bindings>) -> u16
 pub fn played_file(alloc: Global, card: &CardLine, out: &[u8]) -> Result<OutputFile, AllocError>
     ensures { IfOk result (λ file. file ≡ played_file card.now out.now) }
 {
+    let mut name = Vec::from_slice(alloc, out)?;
+    name.extend_from_slice(b".wav")?;
     Ok(OutputFile {
-        name: played_name(alloc, out)?,
+        name: OutputName::from_vec(name),
         channels: u16::from(card.channels),
         rate: card.rate,
     })
@@ -101,28 +83,15 @@ pub fn recorded_file(
 ) -> Result<OutputFile, AllocError>
     ensures { IfOk result (λ file. file ≡ recorded_file card.now out.now reader.now) }
 {
+    let mut name = Vec::from_slice(alloc, out)?;
+    name.push(b'.')?;
+    name.extend_from_slice(reader.name.as_str().as_bytes())?;
+    name.extend_from_slice(b".wav")?;
     Ok(OutputFile {
-        name: recorded_name(alloc, out, reader.name.as_str().as_bytes())?,
+        name: OutputName::from_vec(name),
         channels: reader_channels(card, &reader.bindings),
         rate: card.rate,
     })
-}
-
-/// Appends the files with what these readers took.
-fn push_recorded(
-    alloc: Global,
-    files: &mut Vec<OutputFile>,
-    card: &CardLine,
-    out: &[u8],
-    readers: &[ReaderLine],
-) -> Result<(), AllocError>
-    ensures { OnOk result
-        (files.new.items ≡ files.old.items ++ map (recorded_file card.now out.now) readers.now) }
-{
-    for reader in readers {
-        files.push(recorded_file(alloc, card, out, reader)?)?;
-    }
-    Ok(())
 }
 
 /// The files that a run of a script writes, in the order in which they are written: `OUT.wav` with what
@@ -138,12 +107,8 @@ pub fn output_files(alloc: Global, script: &Script, out: &[u8]) -> Result<Vec<Ou
 {
     let mut files = Vec::new(alloc);
     files.push(played_file(alloc, &script.card, out)?)?;
-    push_recorded(
-        alloc,
-        &mut files,
-        &script.card,
-        out,
-        script.readers.as_slice(),
-    )?;
+    for reader in script.readers.as_slice() {
+        files.push(recorded_file(alloc, &script.card, out, reader)?)?;
+    }
     Ok(files)
 }

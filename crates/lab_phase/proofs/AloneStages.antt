@@ -1,12 +1,12 @@
 -- A phase whose lines are all the card's: the stage after it is one of a run, with all clients and readers as they were.
-use Rattle.lab_phase.specs.Prelude.{ap, arith, refl, subst, sym, ◌+◌, ◌∙◌, ◌≡◌, append-nil, cond, count_by, length, List, Option, Some, ℕ, ℤ, [], ◌++◌, ◌∷◌}
-use Rattle.lab_phase.specs.Prelude.{player_key, player_ring, writer_geometry, writer_ring, Card, writer_of, Line, Op, Row, is_of_card, Client, Held, held_of}
-use Rattle.lab_phase.specs.Prelude.{phase_end, card_rows, is_reader, ops_by, Reader, AtPort, Stage, CardActor, IsSameCard-none, IsSameCard, frame_of_card}
-use Rattle.lab_phase.specs.Prelude.{seat_of_card, AreCounted, number_of, ops_of, has_lines, is_some_op, Lab, ops_by-alone_client, ops_by-alone_reader}
-use Rattle.lab_phase.specs.Prelude.{same_asks-reaped_clients, same_asks-reaped_readers, AreActorsOf, capture_of, IsAtStage, IsNextItem, IsSameScript, played_by}
-use Rattle.lab_phase.specs.Prelude.{played_of, session_of, IsCardIn, IsCardIn-after, IsCardIn-same, AreStopsOf, asks_of_lab, HasRunPhase, HaveSameAsks}
-use Rattle.lab_phase.specs.Prelude.{IsLonger, PlaysAlone, RunsPhase, Stops}
+use Rattle.lab_phase.specs.Prelude.{ap, arith, refl, subst, sym, ◌+◌, ◌∙◌, ◌≡◌, nat_tests, append-nil, cond, count_by, length, List, Option, Some, ℕ, [], ◌++◌}
+use Rattle.lab_phase.specs.Prelude.{◌∷◌, player_key, player_ring, writer_geometry, writer_ring, Card, writer_of, Line, Row, is_of_card, held_of, phase_end}
+use Rattle.lab_phase.specs.Prelude.{card_rows, is_reader, ops_by, Stage, CardActor, IsSameCard-none, IsSameCard, frame_of_card, seat_of_card, number_of, ops_of}
+use Rattle.lab_phase.specs.Prelude.{has_lines, is_some_op, Lab, ops_by-alone_client, ops_by-alone_reader, same_asks-reaped_clients, same_asks-reaped_readers}
+use Rattle.lab_phase.specs.Prelude.{AreActorsOf, capture_of, IsAtStage, IsNextItem, IsSameScript, played_of, session_of, IsCardIn, IsCardIn-after}
+use Rattle.lab_phase.specs.Prelude.{IsCardIn-same, AreStopsOf, asks_of_lab, HasRunPhase, HaveSameAsks, IsLonger, PlaysAlone, RunsPhase, Stops}
 use Rattle.std.proofs.lemmas.List.Sums.{sum_by-cons}
+use Rattle.lab_lines.specs.declared.line.Op.{Op}
 use Rattle.lab_clients.specs.Phase.{ClientsRest, clients-still}
 use Rattle.lab_readers.specs.declared.reader.LabReader.{LabReader}
 use Rattle.lab_readers.specs.Idle.{AreStill, readers-still}
@@ -50,9 +50,7 @@ module _ (lab after : Lab) (lines : List Line) (is : IsNextItem lab (item.Phase 
     next-alone = phase_end (session_of lab) stage lines (stage.clients, []) (stage.readers, [])
 
     card-roomy : IsCardIn (session_of lab) (capture_of lab) stage plays.roomy
-    card-roomy = IsCardIn-same (session_of lab) (capture_of lab) stage stage a plays.roomy
-        (record { card = subst (IsSameCard a.card) (sym plays.same_card) (IsSameCard-none a.card); played = plays.same_samples })
-        (record { phases = refl; position = refl; gone = refl }) actors-here.card_is.is
+    card-roomy = grind (arith, nat_tests)
 
     card-played : IsCardIn (session_of lab) (capture_of lab) next-alone plays.played
     card-played = IsCardIn-after (session_of lab) (capture_of lab) stage (lab.phases + 1) (length lab.script.now.clients) (length lab.script.now.readers) plays.roomy plays.played lines
@@ -84,9 +82,8 @@ module _ (lab after : Lab) (lines : List Line) (is : IsNextItem lab (item.Phase 
             };
             all_places = own.all_places;
           };
-          clients_are = subst (λ (held : Held). clients.AreAt (session_of lab) held next-alone.clients lab.clients) (sym still-clients.same_held)
-              (subst (λ (xs : List (AtPort × Client)). clients.AreAt (session_of lab) (held_of stage) xs lab.clients) (sym still-clients.same_clients) at.actors.clients_are);
-          readers_are = subst (λ (xs : List (AtPort × Reader)). readers.AreAt (session_of lab) (capture_of lab) xs lab.readers) (sym still-readers.reaped) at.actors.readers_are;
+          clients_are = rw (still-clients.same_held, still-clients.same_clients) at.actors.clients_are;
+          readers_are = rw still-readers.reaped at.actors.readers_are;
         }
 
     rows-alone : after.rows.items ≡ next-alone.rows
@@ -116,13 +113,11 @@ module _ (lab after : Lab) (lines : List Line) (is : IsNextItem lab (item.Phase 
         is = refl;
       };
       actors =
-          subst (λ (card : Option CardActor). AreActorsOf (session_of lab) (capture_of lab) next-alone card after.clients after.readers) (sym card_then)
-          (subst (λ cs. AreActorsOf (session_of lab) (capture_of lab) next-alone (Some b) cs after.readers) (sym clients_same)
-          (subst (λ rs. AreActorsOf (session_of lab) (capture_of lab) next-alone (Some b) lab.clients rs) (sym readers_same) actors-alone));
+          rw (card_then, clients_same, readers_same) actors-alone;
       rows = rows-alone;
       counted = record {
-        clients = subst (λ (xs : List (AtPort × Client)). AreCounted base.clients stops.clients 0 xs) (sym still-clients.same_clients) counted.clients;
-        readers = subst (λ (xs : List (AtPort × Reader)). AreCounted base.readers stops.readers 0 xs) (sym still-readers.reaped) counted.readers;
+        clients = rw still-clients.same_clients counted.clients;
+        readers = rw still-readers.reaped counted.readers;
       };
       gates = record {
         clients = same_asks-reaped_clients (session_of lab).ring 0 stage.clients;
@@ -131,13 +126,7 @@ module _ (lab after : Lab) (lines : List Line) (is : IsNextItem lab (item.Phase 
     }
 
   played-alone : IsLonger (played_of lab) (played_of after)
-  played-alone =
-      let samples : List ℤ = plays.part.did.samples in
-      record {
-        more = samples;
-        is = ap played_by card_then
-            ∙ (plays.samples_are ∙ (plays.part.did.played ∙ ap (λ (xs : List ℤ). xs ++ samples) (plays.same_samples ∙ sym (ap played_by card_is))));
-      }
+  played-alone = grind (arith, nat_tests)
 
   pub RunsPhase-alone : IsSameScript lab after → after.phases ≡ lab.phases → after.next ≡ lab.next → after.room ≡ lab.room → (stops : Stops)
       → RunsPhase HaveSameAsks stops stops lab lines after

@@ -1,6 +1,6 @@
 -- What a lab leaves at the end of its script.
-use Rattle.lab_phase.specs.Prelude.{ap, arith, subst, sym, ◌∙◌, ◌≡◌, append-nil, length-append, IsSomeAnd, length, List, Option, Some, ℕ, ℤ, [], ◌*◌, ◌++◌, ◌-◌}
-use Rattle.lab_phase.specs.Prelude.{◌∷◌, Geometry, Segment, AreExact, AreInOrder, Sound, Item, Row, CardLine, first_frame, held_of, ItemsMay, all_runs}
+use Rattle.lab_phase.specs.Prelude.{ap, arith, subst, sym, ◌∙◌, ◌≡◌, nat_tests, append-nil, length-append, IsSomeAnd, length, List, Option, Some, ℕ, ℤ, [], ◌*◌}
+use Rattle.lab_phase.specs.Prelude.{◌++◌, ◌-◌, ◌∷◌, Geometry, AreExact, AreInOrder, Sound, Item, CardLine, first_frame, held_of, ItemsMay, all_runs}
 use Rattle.lab_phase.specs.Prelude.{all_segments, mix_of, outcome_of, recorded_from, first_stage, Session, Stage, CardActor, frames_since_first}
 use Rattle.lab_phase.specs.Prelude.{geometry_of_card, Lab, capture_of, IsAtStage, IsCardOf, played_by, session_of, first_word, HasPlayedMix, HaveAllPlaces}
 use Rattle.lab_phase.specs.Prelude.{IsAtEnd, IsMixBy, IsMixOf}
@@ -14,27 +14,13 @@ use Rattle.lab_run.specs.LabRun as runs
 abbrev outcome_with : Report → List ℤ → List (List ℤ) → runs.Outcome
 outcome_with report played recorded = record { report = report; played = played; recorded = recorded }
 
-abbrev report_with : List Row → List (ℕ × Segment) → List (ℕ × ℕ × ℕ) → ℕ → ℕ → Report
-report_with rows segments all first frames = record { rows = rows; segments = segments; runs = all; first = first; frames = frames }
-
 -- the parts of what a run leaves
 pub outcome-parts : (session : Session) (capture : Option Sound) (stage : Stage) (report : Report) (played : List ℤ) (recorded : List (List ℤ)) → report.rows ≡ stage.rows
     → report.segments ≡ all_segments stage.clients → report.runs ≡ all_runs stage.readers → report.first ≡ first_frame session.card
     → report.frames ≡ stage.position - first_frame session.card → played ≡ mix_of session (all_segments stage.clients) (stage.position - first_frame session.card)
     → recorded ≡ recorded_from session capture 0 stage.readers
     → outcome_with report played recorded ≡ outcome_of session capture stage
-outcome-parts session capture stage report played recorded rows segments all first frames mix records =
-    ap (λ (r : Report). outcome_with r played recorded) whole
-    ∙ (ap (λ (samples : List ℤ). outcome_with (runs.report_of session stage) samples recorded) mix
-    ∙ ap (λ (all_recorded : List (List ℤ)). outcome_with (runs.report_of session stage) (mix_of session (all_segments stage.clients) (stage.position - first_frame session.card)) all_recorded) records)
-  where
-    whole : report ≡ runs.report_of session stage
-    whole =
-        ap (λ (x : List Row). report_with x report.segments report.runs report.first report.frames) rows
-        ∙ (ap (λ (x : List (ℕ × Segment)). report_with stage.rows x report.runs report.first report.frames) segments
-        ∙ (ap (λ (x : List (ℕ × ℕ × ℕ)). report_with stage.rows (all_segments stage.clients) x report.first report.frames) all
-        ∙ (ap (λ (x : ℕ). report_with stage.rows (all_segments stage.clients) (all_runs stage.readers) x report.frames) first
-        ∙ ap (λ (x : ℕ). report_with stage.rows (all_segments stage.clients) (all_runs stage.readers) (first_frame session.card) x) frames)))
+outcome-parts session capture stage report played recorded rows segments all first frames mix records = grind (arith, nat_tests)
 
 -- a list of which a part has its length is that part
 append-whole : {X : Type 0} (xs ys : List X) → length xs ≡ length (xs ++ ys) → xs ≡ xs ++ ys

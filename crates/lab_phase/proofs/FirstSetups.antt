@@ -12,10 +12,7 @@ AreClientOpenings-at card (line ∷ lines) (wav ∷ wavs) (None ∷ setups) are 
 AreClientOpenings-at card (line ∷ lines) (wav ∷ wavs) (Some setup ∷ setups) are zero own is =
     ap (λ (s : Setup). length s.bindings) (sym (same_Some setup own is)) ∙ are.0.channels
 AreClientOpenings-at card (line ∷ lines) (wav ∷ wavs) (setup ∷ setups) are (suc i) own is = AreClientOpenings-at card lines wavs setups are.1 i own is
-AreClientOpenings-at card [] [] (setup ∷ setups) are i own is = absurd are
-AreClientOpenings-at card [] (wav ∷ wavs) setups are i own is = absurd are
-AreClientOpenings-at card (line ∷ lines) [] setups are i own is = absurd are
-AreClientOpenings-at card (line ∷ lines) (wav ∷ wavs) [] are i own is = absurd are
+AreClientOpenings-at card lines wavs setups are i own is = absurd are
 
 index-inside : (xs : List (Option Setup)) (i : ℕ) (own : Setup) → slice_index_or xs i None ≡ Some own → i < length xs
 index-inside [] i own is = absurd (none-some own is)

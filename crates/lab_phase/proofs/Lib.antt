@@ -5,5 +5,4 @@ mod FirstSetups
 mod MeetLaws
 mod Numbers
 mod PhaseStages
-mod Rings
 mod StageLaws

@@ -1,11 +1,10 @@
 -- The meets and the lines of a phase, one after the other: what each of them asks follows from what a phase asks of its actors.
-use Rattle.lab_phase.specs.Prelude.{ap, arith, refl, subst, sym, ◌+◌, ◌∙◌, ◌≡◌, drop-append-le, drop_all, take-append-le, take_all, Vec, All, drop, length}
-use Rattle.lab_phase.specs.Prelude.{List, slice_index_or, take, vec_capacity, vec_len, ℕ, ℤ, ◌*◌, ◌++◌, ◌≤◌, Geometry, end_frame, player_key, player_ring, Card}
-use Rattle.lab_phase.specs.Prelude.{period_of, Line, Op, Row, is_of_card, ops_by, CardActor, frames_by, frame-same, geometry-same, IsSameCard-joined}
-use Rattle.lab_phase.specs.Prelude.{IsSameCard, frame_of_card, geometry_of_card, seat_of_card, FitsRing, HasRoom, AreEach, AreEach-length, LabClients}
-use Rattle.lab_phase.specs.Prelude.{clients_of, places_of, AreOfCard-ring, AreOfRing, AreOfRing-informed, AreOfRing-run, AreOfCard, LabReaders, readers_of}
-use Rattle.lab_phase.specs.Prelude.{IsOfCard, IsOfCard-moved, AreOf-informed, AreOf-ran, AreOf-same, EachReader, PhaseInput, CanMeet, CardCanRun, ClientsCanRun}
-use Rattle.lab_phase.specs.Prelude.{ReadersCanRun, Asks, CardHasRun, ClientsHaveRun, HaveMet, HaveRun, IsSameButCard, ReadersHaveRun}
+use Rattle.lab_phase.specs.Prelude.{ap, arith, refl, ◌+◌, ◌∙◌, ◌≡◌, nat_tests, drop-append-le, drop_all, take-append-le, take_all, All, drop, length, List}
+use Rattle.lab_phase.specs.Prelude.{slice_index_or, take, ℕ, ◌++◌, ◌≤◌, player_key, player_ring, Card, Line, CardActor, IsSameCard-joined, IsSameCard}
+use Rattle.lab_phase.specs.Prelude.{seat_of_card, AreEach, AreEach-length, LabClients, clients_of, places_of, AreOfCard-ring, AreOfRing, AreOfRing-informed}
+use Rattle.lab_phase.specs.Prelude.{AreOfRing-run, AreOfCard, LabReaders, readers_of, IsOfCard, IsOfCard-moved, AreOf-informed, AreOf-ran, AreOf-same}
+use Rattle.lab_phase.specs.Prelude.{EachReader, PhaseInput, CanMeet, CardCanRun, ClientsCanRun, ReadersCanRun, Asks, CardHasRun, ClientsHaveRun, HaveMet}
+use Rattle.lab_phase.specs.Prelude.{HaveRun, IsSameButCard, ReadersHaveRun}
 use Rattle.lab_clients.specs.OneClientLaws.{IsOfRing-card}
 use Rattle.mix_core.specs.declared.gate.Gate as gate
 use Rattle.lab_clients.specs.Steps as clients
@@ -13,28 +12,8 @@ use Rattle.lab_readers.specs.Steps as readers
 
 -- ---- before the lines
 
-FitsRing-met : (ops : List Op) (a b : CardActor) → IsSameButCard a b → FitsRing a ops → FitsRing b ops
-FitsRing-met ops a b same fits =
-    subst (λ (g : Geometry). frame_of_card b.card + frames_by ops ≤ end_frame g) (sym (geometry-same a.card b.card same.card))
-    (subst (λ (n : ℕ). n + frames_by ops ≤ end_frame (geometry_of_card a.card)) (sym (frame-same a.card b.card same.card)) fits)
-
-HasRoom-met : (count frames : ℕ) (a b : CardActor) → IsSameButCard a b → HasRoom a count frames → HasRoom b count frames
-HasRoom-met count frames a b same room =
-    let shape : geometry_of_card b.card ≡ geometry_of_card a.card = geometry-same a.card b.card same.card in
-    record {
-      rows = subst (λ (rows : Vec Row). vec_len rows + count ≤ vec_capacity rows) (sym same.rows) room.rows;
-      played = subst (λ (g : Geometry). vec_len b.played + frames * g.channels ≤ vec_capacity b.played) (sym shape)
-          (subst (λ (samples : Vec ℤ). vec_len samples + frames * (geometry_of_card a.card).channels ≤ vec_capacity samples) (sym same.played) room.played);
-      captured = subst (λ (g : Geometry). period_of b.card * g.channels ≤ vec_capacity b.captured) (sym shape)
-          (subst (λ (n : ℕ). n * (geometry_of_card a.card).channels ≤ vec_capacity b.captured) (sym same.card.period)
-          (subst (λ (samples : Vec ℤ). period_of a.card * (geometry_of_card a.card).channels ≤ vec_capacity samples) (sym same.captured) room.captured));
-    }
-
 pub CardCanRun-met : (lines : List Line) (a b : CardActor) → IsSameButCard a b → CardCanRun lines a → CardCanRun lines b
-CardCanRun-met lines a b same can = record {
-  fits = FitsRing-met (ops_by is_of_card lines) a b same can.fits;
-  room = HasRoom-met (length (ops_by is_of_card lines)) (frames_by (ops_by is_of_card lines)) a b same can.room;
-}
+CardCanRun-met lines a b same can = grind (arith, nat_tests)
 
 module _ (gates : ℕ) (asked : PhaseInput) (a : CardActor) (cs ds : LabClients) (rs ss : LabReaders) (can : CanMeet gates asked a cs rs) where
   pub ClientsCanRun-met : (near : ℕ) → 64 ≤ near → AreEach (clients.IsInformedBy a.card) 0 (clients_of cs) (clients_of ds) → ClientsCanRun near asked ds
@@ -102,10 +81,7 @@ HaveRun-halves {T = T} G count gates near near_after far far_after asked a b cs 
     let after : length near_after ≡ count = same ∙ len in
     let front : take count gates ≡ near = ap (take count) halves ∙ take-front count near far len in
     let back : drop count gates ≡ far = ap (drop count) halves ∙ drop-front count near far len in
-    subst (λ (gs : List T). HaveRun G gs (take count (near_after ++ far_after)) (drop count gates) (drop count (near_after ++ far_after)) asked a b cs ds rs ss) (sym front)
-    (subst (λ (gs : List T). HaveRun G near gs (drop count gates) (drop count (near_after ++ far_after)) asked a b cs ds rs ss) (sym (take-front count near_after far_after after))
-    (subst (λ (gs : List T). HaveRun G near near_after gs (drop count (near_after ++ far_after)) asked a b cs ds rs ss) (sym back)
-    (subst (λ (gs : List T). HaveRun G near near_after far gs asked a b cs ds rs ss) (sym (drop-front count near_after far_after after)) run)))
+    rw (front, take-front count near_after far_after after, back, drop-front count near_after far_after after) run
 
 -- the meets before the lines, the lines with the gates of a list, of which the first 64 are the clients', and the meets after them
 pub HaveMet-halves : {T : Type 0} (G : gate.Ghosts T) (gates near near_after far far_after : List T) (asked : Asks) (a after : CardActor) (between informed heard last : Card)

@@ -1,16 +1,16 @@
 -- A phase of a lab: what its script says of it, and that the stage after it is one of a run.
-use Rattle.lab_phase.specs.Prelude.{ap, append_assoc, arith, subst, sym, ◌+◌, ◌<◌, ◌∙◌, ◌≡◌, Vec, flat_map, Bool, drop, false, length, List, map, Option}
-use Rattle.lab_phase.specs.Prelude.{slice_get, Some, take, true, ℕ, ℤ, [], ◌++◌, ◌∷◌, ◌≢◌, ◌≤◌, Geometry, player_key, player_ring, writer_geometry, writer_ring}
-use Rattle.lab_phase.specs.Prelude.{Card, writer_of, Sound, Item, Line, Row, IsPhase, is_of_card, phases_of, Client, held_of, is_reader_stopped, is_stopped}
-use Rattle.lab_phase.specs.Prelude.{phase_end, reaped_client, reaped_client_if, reaped_reader, reaped_reader_if, card_rows, ops_by, Reader, AtPort, IsReached}
-use Rattle.lab_phase.specs.Prelude.{PhasesAreOfScripts, StagesAreOfScripts, Session, Stage, key_of_places, ring_of_places, CardActor, seat_of_card, FitsRing}
-use Rattle.lab_phase.specs.Prelude.{AreCounted, HaveAskedMore, LabClients, LabReaders, Lab, ReportRoom, PhaseInput, unplugs_by-others, HaveAskedMore-then}
-use Rattle.lab_phase.specs.Prelude.{same_asks-reaped_clients, same_asks-reaped_readers, AreActorsOf, AreOfRings, capture_of, HasEndRoom, IsAtStage, IsNextItem}
-use Rattle.lab_phase.specs.Prelude.{played_by, played_of, session_of, AreSetUp-same, HasDone-next, HasEndRoom-next, session_of-same, AreAll-reached, CanMeet}
-use Rattle.lab_phase.specs.Prelude.{ActorLaws, asks_at, few-rows, have-done, HaveDone, AreStopsOf, asks_of_lab, CountsPhase, DoesPhase, HasRunLines}
-use Rattle.lab_phase.specs.Prelude.{HasRunPhase, HaveAsked, IsLonger, Reaps, RunsPhase, Stops, stops_by, GiveFewRows, HaveMet, HaveRoom, KeepsRoom}
-use Rattle.lab_phase.specs.Prelude.{IsAtStage-room, IsPhase-next}
+use Rattle.lab_phase.specs.Prelude.{ap, append_assoc, arith, subst, sym, ◌+◌, ◌<◌, ◌∙◌, ◌≡◌, nat_tests, Vec, flat_map, drop, length, List, map, Option}
+use Rattle.lab_phase.specs.Prelude.{slice_get, Some, take, ℕ, [], ◌++◌, ◌∷◌, ◌≢◌, ◌≤◌, Geometry, Item, Line, Row, IsPhase, is_of_card, phases_of, held_of}
+use Rattle.lab_phase.specs.Prelude.{phase_end, reaped_client, reaped_reader, card_rows, ops_by, Reader, AtPort, IsReached, PhasesAreOfScripts}
+use Rattle.lab_phase.specs.Prelude.{StagesAreOfScripts, Stage, key_of_places, CardActor, FitsRing, LabClients, LabReaders, Lab, ReportRoom, PhaseInput}
+use Rattle.lab_phase.specs.Prelude.{unplugs_by-others, HaveAskedMore-then, same_asks-reaped_clients, same_asks-reaped_readers, AreActorsOf, AreOfRings}
+use Rattle.lab_phase.specs.Prelude.{capture_of, HasEndRoom, IsAtStage, IsNextItem, played_by, played_of, session_of, AreSetUp-same, HasDone-next}
+use Rattle.lab_phase.specs.Prelude.{session_of-same, AreAll-reached, CanMeet, ActorLaws, asks_at, few-rows, have-done, HaveDone, AreStopsOf, asks_of_lab}
+use Rattle.lab_phase.specs.Prelude.{CountsPhase, DoesPhase, HasRunLines, HasRunPhase, HaveAsked, IsLonger, Reaps, RunsPhase, Stops, stops_by, GiveFewRows}
+use Rattle.lab_phase.specs.Prelude.{HaveMet, HaveRoom, KeepsRoom, IsAtStage-room, IsPhase-next}
 use Rattle.sum_table.specs.declared.view.Key.{Key}
+use Rattle.lab_run.specs.Client.{Client}
+use Rattle.lab_actors.specs.Gates.{AreCounted, HaveAskedMore}
 use Rattle.lab_phase.specs.Reached.{IsFirstOf, IsFirstOf-next}
 use Rattle.lab_phase.proofs.StageLaws.{CanMeet-at, FitsRing-reached, IsAskedAt-reached, files-reached}
 use Rattle.mix_core.specs.declared.gate.Gate as gate
@@ -77,25 +77,18 @@ module _ (lab : Lab) (stage : Stage) (asked : PhaseInput) (at : IsAtStage lab st
 
 -- ---- the gates
 
-AreCounted-reaped_clients : (ring : Geometry) (base stops : ℕ → ℕ) (number : ℕ) (xs : List (AtPort × Client)) → AreCounted base stops number xs
-    → AreCounted base stops number (map (reaped_client ring) xs)
-AreCounted-reaped_clients ring base stops number [] counted = tt
-AreCounted-reaped_clients ring base stops number (x ∷ xs) counted =
-    (by_stop (is_stopped x.1.own), AreCounted-reaped_clients ring base stops (number + 1) xs counted.1)
-  where
-    by_stop : (stopped : Bool) → (reaped_client_if stopped ring x).0.by_gate + base number ≡ stops number
-    by_stop true = counted.0
-    by_stop false = counted.0
+-- what the gates counted stays with actors that keep what theirs told them
+AreCounted-kept : {X : Type 0} (f : AtPort × X → AtPort × X) → ((x : AtPort × X) → (f x).0.by_gate ≡ x.0.by_gate) → (base stops : ℕ → ℕ) (number : ℕ) (xs : List (AtPort × X))
+    → AreCounted base stops number xs → AreCounted base stops number (map f xs)
+AreCounted-kept f kept base stops number [] counted = tt
+AreCounted-kept f kept base stops number (x ∷ xs) counted =
+    (ap (λ (n : ℕ). n + base number) (kept x) ∙ counted.0, AreCounted-kept f kept base stops (number + 1) xs counted.1)
 
-AreCounted-reaped_readers : (ring : Geometry) (base stops : ℕ → ℕ) (number : ℕ) (xs : List (AtPort × Reader)) → AreCounted base stops number xs
-    → AreCounted base stops number (map (reaped_reader ring) xs)
-AreCounted-reaped_readers ring base stops number [] counted = tt
-AreCounted-reaped_readers ring base stops number (x ∷ xs) counted =
-    (by_stop (is_reader_stopped x.1.own), AreCounted-reaped_readers ring base stops (number + 1) xs counted.1)
-  where
-    by_stop : (stopped : Bool) → (reaped_reader_if stopped ring x).0.by_gate + base number ≡ stops number
-    by_stop true = counted.0
-    by_stop false = counted.0
+reaped_client-by_gate : (ring : Geometry) (x : AtPort × Client) → (reaped_client ring x).0.by_gate ≡ x.0.by_gate
+reaped_client-by_gate ring x = grind (arith, nat_tests)
+
+reaped_reader-by_gate : (ring : Geometry) (x : AtPort × Reader) → (reaped_reader ring x).0.by_gate ≡ x.0.by_gate
+reaped_reader-by_gate ring x = grind (arith, nat_tests)
 
 -- ---- a phase in which clients or readers have lines
 
@@ -131,12 +124,7 @@ module _ {T : Type 0} (G : gate.Ghosts T) (gates gates_after : List T) (lab mid 
 
   met-at : HaveMet G (take 64 gates) (take 64 gates_after) (drop 64 gates) (drop 64 gates_after) (asks_at (session_of lab) (capture_of lab) stage lines) run.run.roomy_card
       run.run.roomy_clients run.run.roomy_readers run.run.met_card run.run.met_clients run.run.met_readers
-  met-at =
-      subst
-      (λ (n : ℕ). HaveMet G (take 64 gates) (take 64 gates_after) (drop 64 gates) (drop 64 gates_after)
-      (record { sounds = lab.wavs.now; capture = capture_of lab; phase = n + 1; lines = lines }) run.run.roomy_card run.run.roomy_clients run.run.roomy_readers run.run.met_card
-      run.run.met_clients run.run.met_readers)
-      at.phases run.run.met
+  met-at = grind (arith, nat_tests)
 
   abbrev after_rows : List Row
   after_rows = run.run.met_card.rows.items ++ flat_map client.rows_of (clients.clients_of run.run.met_clients) ++ flat_map reader.rows_of (readers.readers_of run.run.met_readers)
@@ -154,38 +142,10 @@ module _ {T : Type 0} (G : gate.Ghosts T) (gates gates_after : List T) (lab mid 
 
   -- the card and all others are of the same rings as before
   rings-after : AreOfRings run.card_after.card mid.clients mid.readers
-  rings-after =
-      let a = run.card in
-      let own = actors-before.card_is.rings in
-      let room = run.run.room in
-      let met = run.run.met in
-      let given = run.run.given in
-      let moves = met.run.card.did.moves in
-      let places = given.places ∙ (met.places ∙ room.places) in
-      let spare = given.readers.spare ∙ (met.hear_readers.spare ∙ (met.run.readers.spare ∙ (met.inform_readers.spare ∙ room.readers.spare))) in
-      let card : player_ring (seat_of_card run.card_after.card) ≡ player_ring (seat_of_card a.card) =
-      ap (λ (c : Card). player_ring (seat_of_card c)) given.card
-      ∙ (met.last.card.player.ring ∙ (moves.player.ring ∙ (met.second.card.player.ring ∙ ap (λ (c : Card). player_ring (seat_of_card c)) room.card))) in
-      let key : player_key (seat_of_card run.card_after.card) ≡ player_key (seat_of_card a.card) =
-      ap (λ (c : Card). player_key (seat_of_card c)) given.card
-      ∙ (met.last.card.player.key ∙ (moves.player.key ∙ (met.second.card.player.key ∙ ap (λ (c : Card). player_key (seat_of_card c)) room.card))) in
-      let snoop : writer_ring (writer_of run.card_after.card) ≡ writer_ring (writer_of a.card) =
-      ap (λ (c : Card). writer_ring (writer_of c)) given.card
-      ∙ (met.last.card.writer.ring ∙ (moves.writer.ring ∙ (met.second.card.writer.ring ∙ ap (λ (c : Card). writer_ring (writer_of c)) room.card))) in
-      let shape : writer_geometry (writer_of run.card_after.card) ≡ writer_geometry (writer_of a.card) =
-      ap (λ (c : Card). writer_geometry (writer_of c)) given.card
-      ∙ (met.last.card.writer.geometry ∙ (moves.writer.geometry ∙ (met.second.card.writer.geometry ∙ ap (λ (c : Card). writer_geometry (writer_of c)) room.card))) in
-      record {
-        sum_ring = ap ring_of_places places ∙ (own.sum_ring ∙ sym card);
-        sum_key = ap key_of_places places ∙ (own.sum_key ∙ sym key);
-        snoop_ring = ap Rattle.snoop_table.specs.Readers.ring_of spare ∙ (own.snoop_ring ∙ sym snoop);
-        snoop_geometry = ap Rattle.snoop_table.specs.Readers.geometry_of spare ∙ (own.snoop_geometry ∙ sym shape);
-      }
+  rings-after = grind (arith, nat_tests)
 
   places-after : (key_of_places (clients.places_of mid.clients)).places ≡ (session_of lab).card.places
-  places-after =
-      let places = run.run.given.places ∙ (run.run.met.places ∙ run.run.room.places) in
-      ap (λ p. (key_of_places p).places) places ∙ actors-before.card_is.all_places
+  places-after = grind (arith, nat_tests)
 
   module _ (after : Lab) (reaps : Reaps mid after) where
     abbrev next-stage : Stage
@@ -219,8 +179,8 @@ module _ {T : Type 0} (G : gate.Ghosts T) (gates gates_after : List T) (lab mid 
           (flat_map client.rows_of (clients.clients_of run.run.met_clients)) done-lines.client_rows (flat_map reader.rows_of (readers.readers_of run.run.met_readers))
           done-lines.reader_rows at.rows done-lines.rows_are);
       counted = record {
-        clients = AreCounted-reaped_clients (session_of lab).ring base.clients (stops_by G.stops gates_after).clients 0 done-lines.next_clients done-lines.clients_counted;
-        readers = AreCounted-reaped_readers (session_of lab).ring base.readers (stops_by G.stops gates_after).readers 0 done-lines.next_readers done-lines.readers_counted;
+        clients = AreCounted-kept (reaped_client (session_of lab).ring) (reaped_client-by_gate (session_of lab).ring) base.clients (stops_by G.stops gates_after).clients 0 done-lines.next_clients done-lines.clients_counted;
+        readers = AreCounted-kept (reaped_reader (session_of lab).ring) (reaped_reader-by_gate (session_of lab).ring) base.readers (stops_by G.stops gates_after).readers 0 done-lines.next_readers done-lines.readers_counted;
       };
       gates = record {
         clients = HaveAskedMore-then G.asked (take 64 gates) (take 64 gates_after) stage.clients done-lines.next_clients next-stage.clients done-lines.clients_asked
@@ -233,16 +193,7 @@ module _ {T : Type 0} (G : gate.Ghosts T) (gates gates_after : List T) (lab mid 
 -- what was played is longer by what the card took
 played-longer : {T : Type 0} (G : gate.Ghosts T) (gates gates_after : List T) (lab mid after : Lab) (lines : List Line) → HasRunLines G gates gates_after lab lines mid → Reaps mid after
     → IsLonger (played_of lab) (played_of after)
-played-longer G gates gates_after lab mid after lines run reaps =
-    let met = run.run.met in
-    let samples : List ℤ = met.run.card.did.samples in
-    let first : met.before.played.items ≡ played_of lab = ap (λ v. v.items) met.second.played ∙ (run.run.room.played ∙ sym (ap played_by run.card_is)) in
-    record {
-      more = samples;
-      is = ap played_by (reaps.card ∙ run.card_then)
-          ∙ (ap (λ v. v.items) run.run.given.played
-          ∙ (ap (λ v. v.items) met.last.played ∙ (met.run.card.did.played ∙ ap (λ (xs : List ℤ). xs ++ samples) first)));
-    }
+played-longer G gates gates_after lab mid after lines run reaps = grind (arith, nat_tests)
 
 -- at whatever stage it was
 pub RunsPhase-reaped : {T : Type 0} (G : gate.Ghosts T) (gates gates_after : List T) (lab mid after : Lab) (lines : List Line) → ActorLaws → IsNextItem lab (item.Phase lines)
@@ -272,18 +223,10 @@ module _ (Gates : Stage → Stage → Type 0) (stops stops_after : Stops) (lab m
     (runs : RunsPhase Gates stops stops_after lab lines mid)
     (has_room : HasEndRoom (length lines) lab) (counts : CountsPhase mid after) where
   same-then : Rattle.lab_phase.specs.AtStage.IsSameScript lab after
-  same-then = record {
-    script = counts.same.script ∙ runs.same.script;
-    wavs = counts.same.wavs ∙ runs.same.wavs;
-    capture = counts.same.capture ∙ runs.same.capture;
-    openings = counts.same.openings ∙ runs.same.openings;
-  }
+  same-then = grind (arith, nat_tests)
 
   room-then : HasEndRoom 0 after
-  room-then =
-      let same = ap length counts.rows in
-      let few = runs.few in
-      HasEndRoom-next lab after (length lines) same-then (counts.room ∙ runs.room) (omega (arith, same, few)) has_room
+  room-then = grind (arith, nat_tests)
 
   pub DoesPhase-counted : DoesPhase Gates stops stops_after lab lines after
   DoesPhase-counted = record {
@@ -295,11 +238,7 @@ module _ (Gates : Stage → Stage → Type 0) (stops stops_after : Stops) (lab m
       may = has.may;
       is = record {
         actors =
-            subst (λ (s : Session). AreActorsOf s (capture_of after) has.next after.card after.clients after.readers) (sym (session_of-same lab after same-then))
-            (subst (λ (capture : Option Sound). AreActorsOf (session_of lab) capture has.next after.card after.clients after.readers) (sym same-then.capture)
-            (subst (λ (card : Option CardActor). AreActorsOf (session_of lab) (capture_of lab) has.next card after.clients after.readers) (sym counts.card)
-            (subst (λ (cs : LabClients). AreActorsOf (session_of lab) (capture_of lab) has.next mid.card cs after.readers) (sym counts.clients)
-            (subst (λ (rs : LabReaders). AreActorsOf (session_of lab) (capture_of lab) has.next mid.card mid.clients rs) (sym counts.readers) has.actors))));
+            rw (session_of-same lab after same-then, same-then.capture, counts.card, counts.clients, counts.readers) has.actors;
         rows = counts.rows ∙ has.rows;
         phases = counts.phases ∙ (ap (λ (n : ℕ). n + 1) (runs.phases ∙ at.phases) ∙ ap (λ (s : Stage). s.phases) (sym has.may.is));
         has_done = HasDone-next lab after stage has.next (item.Phase lines) same-then is has.may (counts.next ∙ ap (λ (n : ℕ). n + 1) runs.next) at.has_done;

@@ -1,12 +1,14 @@
 -- The actors of a stage can meet the card and do the lines of the next phase, once they took the room of the lines.
-use Rattle.lab_phase.specs.Prelude.{ap, arith, refl, subst, sym, ◌+◌, ◌∙◌, ◌≡◌, All, length, List, Option, Some, suc, ℕ, [], ◌*◌, ◌∷◌, ◌≤◌, Geometry, end_frame}
-use Rattle.lab_phase.specs.Prelude.{player_key, player_ring, writer_geometry, writer_ring, Card, writer_of, Sound, Item, Line, CardLine, ClientLine, ReaderLine}
-use Rattle.lab_phase.specs.Prelude.{Script, IsPhase, is_of_card, held_of, AreClientOpenings, AreReaderOpenings, ops_by, IsReached, PhasesAreOfScripts, Session}
-use Rattle.lab_phase.specs.Prelude.{Setup, Stage, key_of_places, ring_of_places, CardActor, frames_by, frame_of_card, geometry_of_card, seat_of_card, FitsRing}
-use Rattle.lab_phase.specs.Prelude.{AreEach-length, LabClients, clients_of, IsClientAt, places_of, AreOfCard-ring, AreOfRing-at, AreOfRing-room, AreReady-at}
-use Rattle.lab_phase.specs.Prelude.{AreOfCard, AreReady, LabReaders, IsReaderAt, readers_of, ring_of, spare_of, IsOfCard, IsOver, AreOf-at, AreOf-room}
-use Rattle.lab_phase.specs.Prelude.{AreReady-informed, PhaseInput, AreActorsOf, AreAll-reached, CanMeet, HaveRoom, FitsRing-next, IsFew-lines, IsFewRead-lines}
-use Rattle.lab_phase.specs.Prelude.{IsPhase-next}
+use Rattle.lab_phase.specs.Prelude.{ap, arith, refl, subst, sym, ◌+◌, ◌∙◌, ◌≡◌, nat_tests, All, length, List, Option, Some, suc, ℕ, [], ◌*◌, ◌∷◌, ◌≤◌, Geometry}
+use Rattle.lab_phase.specs.Prelude.{player_key, player_ring, Card, Sound, Item, Line, CardLine, ClientLine, Script, IsPhase, is_of_card, held_of}
+use Rattle.lab_phase.specs.Prelude.{AreClientOpenings, AreReaderOpenings, ops_by, IsReached, PhasesAreOfScripts, Session, Setup, Stage, key_of_places}
+use Rattle.lab_phase.specs.Prelude.{ring_of_places, CardActor, frame_of_card, geometry_of_card, seat_of_card, FitsRing, AreEach-length, LabClients, clients_of}
+use Rattle.lab_phase.specs.Prelude.{IsClientAt, places_of, AreOfCard-ring, AreOfRing-at, AreOfRing-room, AreReady-at, AreOfCard, AreReady, LabReaders}
+use Rattle.lab_phase.specs.Prelude.{IsReaderAt, readers_of, ring_of, spare_of, IsOfCard, IsOver, AreOf-at, AreOf-room, AreReady-informed, PhaseInput}
+use Rattle.lab_phase.specs.Prelude.{AreActorsOf, AreAll-reached, CanMeet, HaveRoom, FitsRing-next, IsFew-lines, IsFewRead-lines, IsPhase-next}
+use Rattle.snd_base.specs.Places.{end_frame}
+use Rattle.lab_lines.specs.declared.script.ReaderLine.{ReaderLine}
+use Rattle.lab_card.specs.CardLines.{frames_by}
 use Rattle.lab_card.specs.PositionLaws.{frames_by-ops_by}
 use Rattle.lab_card.specs.Stages.{IsCardAt}
 use Rattle.lab_lines.specs.declared.line.Item.TheVariants as item
@@ -39,10 +41,7 @@ module _ (session : Session) (capture : Option Sound) (stage : Stage) (gates cli
       (AreOfRing-room ring key asked.lines.now (clients_of cs0) (clients_of cs) room.clients (AreOfRing-at session (held_of stage) stage.clients cs0 are.clients_are))
 
   over : IsOver (ring_of rs0) session.ring a.card
-  over = record {
-    of_ring = ap (λ (c : Card). writer_ring (writer_of c)) room.card ∙ sym are.card_is.rings.snoop_ring;
-    of_geometry = ap (λ (c : Card). writer_geometry (writer_of c)) room.card ∙ (sym are.card_is.rings.snoop_geometry ∙ are.readers_are.card.ring);
-  }
+  over = grind (arith, nat_tests)
 
   readers-of_card : All (IsOfCard a.card) (readers_of rs)
   readers-of_card = AreOf-room a.card asked.lines.now rs0 rs room.readers (AreOf-at session capture stage.readers rs0 a.card are.readers_are over)
@@ -82,23 +81,17 @@ module _ (session : Session) (capture : Option Sound) (stage : Stage) (gates cli
 -- ---- the next phase of a script, at a stage that a run of it has reached
 
 -- a session has as many openings of clients, and of readers, as its script has lines of them, and as many files as clients
-AreClientOpenings-length : (card : CardLine) (lines : List ClientLine) (wavs : List Sound) (setups : List (Option Setup)) → AreClientOpenings card lines wavs setups
+pub AreClientOpenings-length : (card : CardLine) (lines : List ClientLine) (wavs : List Sound) (setups : List (Option Setup)) → AreClientOpenings card lines wavs setups
     → (length setups ≡ length lines) × (length setups ≡ length wavs)
 AreClientOpenings-length card [] [] [] are = (refl, refl)
 AreClientOpenings-length card (line ∷ lines) (wav ∷ wavs) (setup ∷ setups) are =
     let more = AreClientOpenings-length card lines wavs setups are.1 in (ap suc more.0, ap suc more.1)
-AreClientOpenings-length card [] [] (setup ∷ setups) are = absurd are
-AreClientOpenings-length card [] (wav ∷ wavs) [] are = absurd are
-AreClientOpenings-length card [] (wav ∷ wavs) (setup ∷ setups) are = absurd are
-AreClientOpenings-length card (line ∷ lines) [] [] are = absurd are
-AreClientOpenings-length card (line ∷ lines) [] (setup ∷ setups) are = absurd are
-AreClientOpenings-length card (line ∷ lines) (wav ∷ wavs) [] are = absurd are
+AreClientOpenings-length card lines wavs setups are = absurd are
 
-AreReaderOpenings-length : (card : CardLine) (lines : List ReaderLine) (setups : List (Option Setup)) → AreReaderOpenings card lines setups → length setups ≡ length lines
+pub AreReaderOpenings-length : (card : CardLine) (lines : List ReaderLine) (setups : List (Option Setup)) → AreReaderOpenings card lines setups → length setups ≡ length lines
 AreReaderOpenings-length card [] [] are = refl
 AreReaderOpenings-length card (line ∷ lines) (setup ∷ setups) are = ap suc (AreReaderOpenings-length card lines setups are.1)
-AreReaderOpenings-length card [] (setup ∷ setups) are = absurd are
-AreReaderOpenings-length card (line ∷ lines) [] are = absurd are
+AreReaderOpenings-length card lines setups are = absurd are
 
 -- there is a file for each client
 pub files-reached : (script : Script) (wavs : List Sound) (session : Session) (done others : List Item) (lines : List Line) (stage : Stage)

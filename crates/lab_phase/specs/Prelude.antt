@@ -1,39 +1,34 @@
 -- The names that most proofs of this crate cite, passed on from one place. Declares nothing.
 pub use Rattle.std.proofs.Common.{ap, append_assoc, arith, if◌then◌else◌, refl, rules, subst, sym, ◌+◌, ◌<◌, ◌∙◌, ◌≡◌}
-pub use Rattle.std.proofs.lemmas.List.{append-nil, drop-append-le, drop_all, length-append, take-append-le, take_all}
+pub use Rattle.std.proofs.lemmas.Bool.Decides.{nat_tests}
+pub use Rattle.std.proofs.lemmas.List.{append-nil, drop-append-le, drop_all, get_or_default, length-append, take-append-le, take_all}
 pub use Rattle.std.proofs.lemmas.Option.{get_or_from_slice_get, none-some, same_Some}
 pub use Rattle.std.specs.Global.{Vec}
 pub use Rattle.std.specs.List.{flat_map}
 pub use Rattle.std.specs.Option.{option_copied}
-pub use Rattle.std.specs.Prelude.{All, Bool, cond, count_by, drop, false, IfOk, IfSome, IsSomeAnd, length, List, map, nat_lt, None, Option, slice_get}
-pub use Rattle.std.specs.Prelude.{slice_index_or, Some, suc, take, true, vec_capacity, vec_len, zero, ℕ, ℤ, [], ◌*◌, ◌++◌, ◌-◌, ◌∷◌, ◌≢◌, ◌≤◌}
+pub use Rattle.std.specs.Prelude.{All, Bool, cond, count_by, drop, IfOk, IfSome, IsSomeAnd, length, List, map, nat_lt, None, Option, slice_get, slice_index_or}
+pub use Rattle.std.specs.Prelude.{Some, suc, take, vec_len, zero, ℕ, ℤ, [], ◌*◌, ◌++◌, ◌-◌, ◌∷◌, ◌≢◌, ◌≤◌}
 pub use Rattle.snd_base.specs.declared.geometry.Geometry.{Geometry}
-pub use Rattle.snd_base.specs.declared.places.Segment.{Segment}
-pub use Rattle.snd_base.specs.Places.{end_frame}
 pub use Rattle.mix_core.specs.History.{AreExact, AreInOrder}
 pub use Rattle.sum_table.specs.declared.seats.mix.MixSeat.{MixSeat}
 pub use Rattle.sum_table.specs.declared.seats.player.PlayerSeat.{PlayerSeat}
 pub use Rattle.sum_table.specs.Players.{player_key, player_ring, position_of_player, track_of}
 pub use Rattle.sum_table.specs.Seats.{key_of, view_of}
 pub use Rattle.snoop_table.specs.declared.seats.reader.ReaderSeat.{ReaderSeat}
-pub use Rattle.snoop_table.specs.Writers.{writer_geometry, writer_ring, writer_track}
+pub use Rattle.snoop_table.specs.Writers.{writer_geometry, writer_ring}
 pub use Rattle.card_sim.specs.declared.card.Card.{Card}
 pub use Rattle.card_sim.specs.Runs.{period_of, records_of, writer_of}
 pub use Rattle.wav_io.specs.Sound.{Sound}
 pub use Rattle.lab_lines.specs.declared.line.Actor.{Actor}
 pub use Rattle.lab_lines.specs.declared.line.Item.{Item}
 pub use Rattle.lab_lines.specs.declared.line.Line.{Line}
-pub use Rattle.lab_lines.specs.declared.line.Op.{Op}
 pub use Rattle.lab_lines.specs.declared.row.Row.{Row}
 pub use Rattle.lab_lines.specs.declared.script.CardLine.{CardLine}
 pub use Rattle.lab_lines.specs.declared.script.ClientLine.{ClientLine}
-pub use Rattle.lab_lines.specs.declared.script.ReaderLine.{ReaderLine}
 pub use Rattle.lab_lines.specs.declared.script.Script.{Script}
 pub use Rattle.lab_lines.specs.Limits.{IsBorder, IsItem, IsPhase, IsScript}
 pub use Rattle.lab_lines.specs.Script.{first_frame, is_of_card, phases_of}
-pub use Rattle.lab_run.specs.Client.{Client}
-pub use Rattle.lab_run.specs.Items.{Held, held_of, is_reader_stopped, is_stopped, ItemsMay, no_sound, phase_end, reaped_client, reaped_client_if, reaped_reader}
-pub use Rattle.lab_run.specs.Items.{reaped_reader_if}
+pub use Rattle.lab_run.specs.Items.{held_of, ItemsMay, no_sound, phase_end, reaped_client, reaped_reader}
 pub use Rattle.lab_run.specs.LabRun.{all_runs, all_segments, mix_of, outcome_of, recorded_from}
 pub use Rattle.lab_run.specs.Openings.{AreClientOpenings, AreReaderOpenings, IsRingOf}
 pub use Rattle.lab_run.specs.Phases.{card_rows, is_reader, ops_by}
@@ -43,12 +38,10 @@ pub use Rattle.lab_run.specs.ScriptWords.{IsReached, PhasesAreOfScripts, StagesA
 pub use Rattle.lab_run.specs.Stage.{after_close, after_open, first_stage, Session, Setup, Stage}
 pub use Rattle.lab_places.specs.Held.{key_of_places, ring_of_places}
 pub use Rattle.lab_card.specs.declared.card.CardActor.{CardActor}
-pub use Rattle.lab_card.specs.CardLines.{frames_by}
-pub use Rattle.lab_card.specs.MeetLaws.{frame-same, geometry-same, IsSameCard-joined, IsSameCard-none}
+pub use Rattle.lab_card.specs.MeetLaws.{IsSameCard-joined, IsSameCard-none}
 pub use Rattle.lab_card.specs.Meets.{IsSameCard}
-pub use Rattle.lab_card.specs.Moves.{frame_of_card, frames_since_first, geometry_of_card, is_gone, seat_of_card}
-pub use Rattle.lab_card.specs.Room.{FitsRing, HasRoom}
-pub use Rattle.lab_actors.specs.Gates.{AreCounted, HaveAskedMore}
+pub use Rattle.lab_card.specs.Moves.{frame_of_card, frames_since_first, geometry_of_card, seat_of_card}
+pub use Rattle.lab_card.specs.Room.{FitsRing}
 pub use Rattle.lab_actors.specs.Sessions.{AreUsable, session_with}
 pub use Rattle.lab_actors.specs.Usable.{IsUsable}
 pub use Rattle.lab_actors.specs.Walks.{AreEach, AreEach-length, AreEach-map, AreEach-same}
@@ -70,10 +63,10 @@ pub use Rattle.lab_phase.specs.Alone.{ops_by-alone_client, ops_by-alone_reader, 
 pub use Rattle.lab_phase.specs.AskLaws.{HaveAsked-none, HaveAskedMore-then, RunsPhase-more, same_asks-reaped_clients, same_asks-reaped_readers}
 pub use Rattle.lab_phase.specs.AtStage.{AreActorsOf, AreOfRings, border_after, capture_of, DoesItem, DoesRow, HasEndRoom, IsAtStage, IsCardOf, IsNextItem}
 pub use Rattle.lab_phase.specs.AtStage.{IsSameScript, played_by, played_of, session_of}
-pub use Rattle.lab_phase.specs.BorderLaws.{AreSetUp-same, DoesItem-row, DoesRow-client, DoesRow-clients, DoesRow-reader, HasDone-next, HasEndRoom-next}
-pub use Rattle.lab_phase.specs.BorderLaws.{IfOk-more, ItemMay-border, next-inside, OnErr-always, OnErr-both, OnOk-more, session_of-same}
+pub use Rattle.lab_phase.specs.BorderLaws.{AreSetUp-same, DoesItem-row, DoesRow-client, DoesRow-clients, DoesRow-reader, HasDone-next, IfOk-more}
+pub use Rattle.lab_phase.specs.BorderLaws.{ItemMay-border, next-inside, OnErr-always, OnErr-both, OnOk-more, session_of-same}
 pub use Rattle.lab_phase.specs.Borders.{after_close-keeps_clients, after_close-keeps_readers, after_open-keeps_clients, after_open-keeps_readers}
-pub use Rattle.lab_phase.specs.CardStage.{first_word, has_readers, IsCardIn, IsCardIn-after, IsCardIn-same, PlaysAll-new}
+pub use Rattle.lab_phase.specs.CardStage.{first_word, has_readers, IsCardIn, IsCardIn-after, IsCardIn-same}
 pub use Rattle.lab_phase.specs.Counts.{AreAll-reached}
 pub use Rattle.lab_phase.specs.Ended.{HasPlayedMix, HaveAllPlaces, IsAtEnd, IsMixBy, IsMixOf}
 pub use Rattle.lab_phase.specs.PhaseInput.{asks_of, CanMeet, CardCanRun, ClientsCanRun, ReadersCanRun}

@@ -1,9 +1,8 @@
 -- The beginning of a run: nothing is played, recorded or answered, and so much is written.
-use Rattle.lab_play.specs.Prelude.{ap, arith, inl, map, refl, subst, suc, sym, take, ◌∙◌, append-nil, length-map, option_map, length, List, Option, ℕ, ℤ, []}
-use Rattle.lab_play.specs.Prelude.{◌++◌, ◌+◌, ◌∷◌, ◌≡◌, Sound, Changes, Files, TookPart, CardLine, Script, recorded_from, AreReaderOpenings, first_stage}
-use Rattle.lab_play.specs.Prelude.{no_reader, Session, Setup, Stage, Lab, capture_of, session_of, Stops, AreStopsOf-first, RunInput, OutputFile, Outputs}
-use Rattle.lab_play.specs.Prelude.{MayHold, nothing, recorded_file, IsGoingOn, head_text, text_so_far, IsNewRun, IsLabOf, IsPlaying, IsStopped, scene}
-use Rattle.lab_play.specs.Prelude.{sounds_at, Start}
+use Rattle.lab_play.specs.Prelude.{ap, arith, inl, map, refl, subst, suc, sym, take, ◌∙◌, length-map, option_map, length, List, Option, ℕ, ℤ, [], ◌++◌, ◌+◌}
+use Rattle.lab_play.specs.Prelude.{◌∷◌, ◌≡◌, Sound, Changes, Files, TookPart, CardLine, Script, recorded_from, AreReaderOpenings, first_stage, no_reader}
+use Rattle.lab_play.specs.Prelude.{Session, Setup, Stage, Lab, capture_of, session_of, Stops, AreStopsOf-first, RunInput, OutputFile, Outputs, MayHold, nothing}
+use Rattle.lab_play.specs.Prelude.{recorded_file, IsGoingOn, head_text, text_so_far, IsNewRun, IsLabOf, IsPlaying, IsStopped, scene, sounds_at, Start}
 use Rattle.lab_lines.specs.declared.script.ReaderLine.{ReaderLine}
 use Rattle.lab_play.proofs.ItemsStopped.{HasStopped-silent, IsStoppedAt-rows}
 
@@ -11,8 +10,7 @@ use Rattle.lab_play.proofs.ItemsStopped.{HasStopped-silent, IsStoppedAt-rows}
 readers-length : (card : CardLine) (lines : List ReaderLine) (setups : List (Option Setup)) → AreReaderOpenings card lines setups → length lines ≡ length setups
 readers-length card [] [] are = refl
 readers-length card (line ∷ lines) (setup ∷ setups) are = ap suc (readers-length card lines setups are.1)
-readers-length card [] (setup ∷ setups) are = absurd are
-readers-length card (line ∷ lines) [] are = absurd are
+readers-length card lines setups are = absurd are
 
 -- readers that were never open recorded nothing
 nothing-recorded : (session : Session) (capture : Option Sound) (number : ℕ) (outputs : List OutputFile) (setups : List (Option Setup)) → length outputs ≡ length setups
@@ -20,8 +18,7 @@ nothing-recorded : (session : Session) (capture : Option Sound) (number : ℕ) (
 nothing-recorded session capture number [] [] same = refl
 nothing-recorded session capture number (output ∷ outputs) (setup ∷ setups) same =
     ap (λ (sounds : List (List ℤ)). [] ∷ sounds) (nothing-recorded session capture (number + 1) outputs setups (omega (arith, same)))
-nothing-recorded session capture number [] (setup ∷ setups) same = absurd (omega (arith, same))
-nothing-recorded session capture number (output ∷ outputs) [] same = absurd (omega (arith, same))
+nothing-recorded session capture number outputs setups same = absurd (omega (arith, same))
 
 module _ (input : RunInput) (name : List ℕ) (stops : Stops) (lab : Lab) (outputs : Outputs) (before : Option Files) (taken : Option (List ℕ)) (is : IsNewRun input name lab outputs) where
   abbrev pub start-of : Start
@@ -54,9 +51,7 @@ module _ (input : RunInput) (name : List ℕ) (stops : Stops) (lab : Lab) (outpu
       files_are = is.new.files;
       going_on = subst (λ (sounds : List (List ℤ)). IsGoingOn outputs.files.items outputs.samples.items sounds before files) sounds-first going;
       few = let none = is.new.rows in omega (arith, none);
-      text = text
-          ∙ (ap (λ (line : List ℕ). option_map (λ t. t ++ line) taken) (sym (append-nil head_text))
-          ∙ ap (λ (k : ℕ). option_map (λ t. t ++ text_so_far input.script (take k [])) taken) (sym is.new.rows));
+      text = text ∙ ap (λ (k : ℕ). option_map (λ t. t ++ text_so_far input.script (take k [])) taken) (sym is.new.rows);
     };
   }
 
@@ -72,7 +67,5 @@ module _ (input : RunInput) (name : List ℕ) (stops : Stops) (lab : Lab) (outpu
   HasStopped-first files taken_after changes part =
       HasStopped-silent start-of stops lab files taken_after
       (IsStoppedAt-rows start-of stops lab first files taken_after lab-first
-      (subst (λ (outs : List OutputFile). Changes (MayHold outs (sounds_at lab first)) before files) is.new.files
-      (subst (λ (sounds : List (List ℤ)). Changes (MayHold outputs.files.items sounds) before files) sounds-first changes))
-      (subst (λ (text : List ℕ). TookPart taken taken_after text) (sym (append-nil head_text)) part) (inl part))
+      (rw (sounds-first, is.new.files) at changes) part (inl part))
       is.silent

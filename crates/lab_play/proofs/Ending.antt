@@ -1,12 +1,12 @@
 -- The end of a run: what is written last, and that it is what a run leaves.
-use Rattle.lab_play.specs.Prelude.{ap, append_assoc, arith, inl, inr, refl, subst, sym, take, ◌∙◌, ◌≤◌, append-nil, length-append, take-append-drop}
+use Rattle.lab_play.specs.Prelude.{ap, append_assoc, arith, inl, inr, refl, subst, sym, take, ◌∙◌, ◌≤◌, nat_tests, append-nil, length-append, take-append-drop}
 use Rattle.lab_play.specs.Prelude.{flat_map-append, flat_map, option_map, drop, Err, length, List, None, Ok, Option, Result, Some, ℕ, ℤ, [], ◌++◌, ◌∷◌, ◌≡◌}
 use Rattle.lab_play.specs.Prelude.{Sound, Changes, TookPart-all, TookPart-then, Files, TookPart, Item, Report, Row, Script, IsScript, IsReportOf, report_text}
-use Rattle.lab_play.specs.Prelude.{row_line, tail_text, ItemsMay, LabRun, Outcome, outcome_of, recorded_from, IsSessionOf, first_stage, Session, Stage, Lab}
-use Rattle.lab_play.specs.Prelude.{capture_of, items_done, played_of, session_of, HasPlayedMix, LeavesStage, outcome_in, HaveAsked, Stops, AreWithin-counted}
-use Rattle.lab_play.specs.Prelude.{AreSamples, PlaysOneSample, OutcomesAreOfScripts, OutputFile, Outputs, finished_files, MayHold, output_files, KeepSamples}
-use Rattle.lab_play.specs.Prelude.{head_text, tail_from, text_so_far, EndsAt, StopsInHeads, StopsInTail, HasPlayedAsking, sounds_of, IsPlaying, IsStopped}
-use Rattle.lab_play.specs.Prelude.{Scene, scene, sounds_at, Start, text_at, rises}
+use Rattle.lab_play.specs.Prelude.{row_line, tail_text, ItemsMay, LabRun, Outcome, outcome_of, IsSessionOf, first_stage, Session, Stage, Lab, capture_of}
+use Rattle.lab_play.specs.Prelude.{items_done, played_of, session_of, HasPlayedMix, LeavesStage, outcome_in, HaveAsked, Stops, AreWithin-counted, AreSamples}
+use Rattle.lab_play.specs.Prelude.{PlaysOneSample, OutcomesAreOfScripts, OutputFile, Outputs, finished_files, MayHold, output_files, KeepSamples, head_text}
+use Rattle.lab_play.specs.Prelude.{tail_from, text_so_far, EndsAt, StopsInHeads, StopsInTail, HasPlayedAsking, sounds_of, IsPlaying, IsStopped, Scene, scene}
+use Rattle.lab_play.specs.Prelude.{sounds_at, Start, text_at, rises}
 use Rattle.std.specs.Result.{IsErrAnd}
 use Rattle.mix_core.specs.declared.gate.Pass.{Pass}
 use Rattle.mix_core.specs.declared.gate.StepKind.{StepKind}
@@ -67,9 +67,7 @@ module _ (start : Start) (stops : Stops) (lab : Lab) (outputs : Outputs) (files 
   rows-at_end = ap (λ (o : Outcome). o.report.rows) at-end
 
   sounds-at_end : sounds_at lab is.stage ≡ sounds_of (outcome_in outcome)
-  sounds-at_end =
-      ap (λ (xs : List ℤ). xs ∷ recorded_from (session_of lab) (capture_of lab) 0 is.stage.readers) (sym samples)
-      ∙ ap (λ (xss : List (List ℤ)). outcome.played.items ∷ xss) (sym (ap (λ (o : Outcome). o.recorded) at-end))
+  sounds-at_end = grind (arith, nat_tests)
 
   -- no item is left
   last-end : is.lab_is.stage_is.has_done.others ≡ []

@@ -3,9 +3,9 @@
 --     StaysWritten-border      an opening or a closing: all that the lab holds is written still
 --     HasLeftUnwritten-phase      a phase: what it played, recorded and answered isn't written yet
 --     GoesOn-written      and then it is
-use Rattle.lab_play.specs.Prelude.{ap, arith, subst, sym, take, ◌∙◌, take-append_seam, length-append, take-append-le, option_map, length, List, Option}
-use Rattle.lab_play.specs.Prelude.{slice_get, Some, ℕ, ℤ, [], ◌++◌, ◌+◌, ◌∷◌, ◌≡◌, Sound, TookPart-all, Files, Item, Line, Row, Script, ItemMay, recorded_from}
-use Rattle.lab_play.specs.Prelude.{IsSessionOf, Reader, AtPort, IsReached, Session, Stage, Lab, HaveSameAsks-border, HaveSameAsks-none, capture_of, DoesItem}
+use Rattle.lab_play.specs.Prelude.{ap, arith, subst, sym, take, ◌∙◌, take-append_seam, nat_tests, length-append, take-append-le, option_map, length, List}
+use Rattle.lab_play.specs.Prelude.{Option, slice_get, Some, ℕ, ℤ, [], ◌++◌, ◌+◌, ◌∷◌, ◌≡◌, Sound, TookPart-all, Files, Item, Line, Row, Script, ItemMay}
+use Rattle.lab_play.specs.Prelude.{recorded_from, Reader, AtPort, IsReached, Session, Stage, Lab, HaveSameAsks-border, HaveSameAsks-none, capture_of, DoesItem}
 use Rattle.lab_play.specs.Prelude.{IsBorderItem, IsNextItem, IsOfScript, IsSameScript, played_of, session_of, session_of-same, DoesPhase, StaysAtStage, Stops}
 use Rattle.lab_play.specs.Prelude.{AreStopsOf-border, AreGrown, BordersKeepFrames, frames_of_readers, recorded_from-grown, recorded_from-same, StagesGrow}
 use Rattle.lab_play.specs.Prelude.{Outputs, AreLonger, IsPartOf, text_so_far, StopsInFrames, AreWritten, GoesOn, HasUnwrittenPhase, IsPlaying, Scene, scene}
@@ -18,12 +18,7 @@ use Rattle.lab_lines.specs.declared.line.Item.TheVariants as item
 -- it is of the same script after an item
 IsOfScript-same : (script : Script) (wavs : List Sound) (capture : Option Sound) (lab after : Lab) → IsSameScript lab after → IsOfScript script wavs capture lab
     → IsOfScript script wavs capture after
-IsOfScript-same script wavs capture lab after same is = record {
-  script_is = same.script ∙ is.script_is;
-  wavs_are = same.wavs ∙ is.wavs_are;
-  capture_is = same.capture ∙ is.capture_is;
-  session_is = subst (λ (session : Session). IsSessionOf script wavs session) (sym (session_of-same lab after same)) is.session_is;
-}
+IsOfScript-same script wavs capture lab after same is = grind (arith, nat_tests)
 
 -- the samples of readers are those of the same session and capture file
 recorded-script : (lab after : Lab) (readers : List (AtPort × Reader)) → IsSameScript lab after
@@ -83,8 +78,7 @@ AreLonger-grown session capture number [] [] grown = grown
 AreLonger-grown session capture number (x ∷ xs) (y ∷ ys) grown =
     let longer = recorded_from-grown session capture number (x ∷ xs) (y ∷ ys) grown 0 in
     (IsPartOf-longer _ longer.0 _ longer.1, AreLonger-grown session capture (number + 1) xs ys grown.1)
-AreLonger-grown session capture number [] (y ∷ ys) grown = absurd grown
-AreLonger-grown session capture number (x ∷ xs) [] grown = absurd grown
+AreLonger-grown session capture number xs ys grown = absurd grown
 
 -- ---- an opening or a closing
 

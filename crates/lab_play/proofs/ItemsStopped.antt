@@ -3,33 +3,23 @@
 --     IsStoppedAt-playing      nothing was written since all that the lab holds was written
 --     HasStopped-closed, HasStopped-silent      once the lab's rings are closed, or where it played nothing
 --     stops-in_rows      the files of a run hold all that its lab holds
-use Rattle.lab_play.specs.Prelude.{ap, append_assoc, inl, inr, map, subst, sym, take, ◌-◌, ◌∙◌, take-append-drop, flat_map-append, flat_map, range_with_len}
-use Rattle.lab_play.specs.Prelude.{option_map, drop, IsSomeAnd, length, List, None, Option, Some, ℕ, ℤ, [], ◌*◌, ◌++◌, ◌∷◌, ◌≡◌, Sound, Changes, TookPart-all}
-use Rattle.lab_play.specs.Prelude.{TookPart-first, Files, TookPart, Item, Row, CardLine, Script, row_line, tail_text, all_segments, entries_of, mix_of}
-use Rattle.lab_play.specs.Prelude.{mixed_at, recorded_from, report_of, IsSessionOf, IsReached, Session, Stage, Lab, capture_of, IsCardOf, played_by, played_of}
-use Rattle.lab_play.specs.Prelude.{session_of, HasPlayedMix, Stops, AreWithin-counted, OutputFile, MayHold, output_files, unfinished_files, AreLonger-same}
-use Rattle.lab_play.specs.Prelude.{IsGoingOn-Changes, head_text, text_so_far, RowsFollowFrames, StopsInRows, IsLabOf, IsPlaying, IsStopped, IsStoppedAt, Scene}
-use Rattle.lab_play.specs.Prelude.{sounds_at, Start, text_at, IsWithinStops, rises}
+use Rattle.lab_play.specs.Prelude.{ap, append_assoc, arith, map, subst, sym, take, ◌-◌, ◌∙◌, nat_tests, take-append-drop, flat_map-append, flat_map}
+use Rattle.lab_play.specs.Prelude.{range_with_len, option_map, drop, IsSomeAnd, length, List, None, Option, Some, ℕ, ℤ, [], ◌*◌, ◌++◌, ◌∷◌, ◌≡◌, Sound, Changes}
+use Rattle.lab_play.specs.Prelude.{TookPart-all, TookPart-first, Files, TookPart, Item, Row, CardLine, Script, row_line, tail_text, all_segments, entries_of}
+use Rattle.lab_play.specs.Prelude.{mix_of, mixed_at, recorded_from, report_of, IsSessionOf, IsReached, Session, Stage, Lab, played_by, played_of, session_of}
+use Rattle.lab_play.specs.Prelude.{HasPlayedMix, Stops, AreWithin-counted, OutputFile, MayHold, output_files, unfinished_files, AreLonger-same}
+use Rattle.lab_play.specs.Prelude.{IsGoingOn-Changes, head_text, text_so_far, RowsFollowFrames, IsLabOf, IsPlaying, IsStopped, IsStoppedAt, Scene, sounds_at}
+use Rattle.lab_play.specs.Prelude.{Start, text_at, IsWithinStops, rises}
 use Rattle.lab_lines.specs.Script.{first_frame}
 use Rattle.lab_card.specs.declared.card.CardActor.{CardActor}
-use Rattle.lab_card.specs.Moves.{frames_since_first, geometry_of_card}
 use Rattle.lab_phase.specs.CardStage.{IsCardIn}
-use Rattle.snd_base.specs.Places as rings
 
 -- ---- what its card played
 
 -- a card at a stage played the frames from the first one to the stage's position
 frames-actor : (script : Script) (wavs : List Sound) (session : Session) (capture : Option Sound) (stage : Stage) (a : CardActor) → IsSessionOf script wavs session
     → IsCardIn session capture stage a → length a.played.items ≡ (stage.position - first_frame script.card) * script.card.channels
-frames-actor script wavs session capture stage a is own =
-    let first : rings.first_frame (geometry_of_card a.card) ≡ first_frame script.card =
-    ap rings.first_frame own.at.ring
-    ∙ (ap (λ (n : ℕ). n * session.ring.frames) is.ring.first_lap ∙ ap (λ (n : ℕ). script.card.lap * n) is.ring.frames) in
-    let frames : frames_since_first a.card ≡ stage.position - first_frame script.card =
-    ap (λ (n : ℕ). n - rings.first_frame (geometry_of_card a.card)) own.at.frame ∙ ap (λ (n : ℕ). stage.position - n) first in
-    let channels : (geometry_of_card a.card).channels ≡ script.card.channels = ap (λ g. g.channels) own.at.ring ∙ is.ring.channels in
-    own.plays.len
-    ∙ (ap (λ (n : ℕ). n * (geometry_of_card a.card).channels) frames ∙ ap (λ (n : ℕ). (stage.position - first_frame script.card) * n) channels)
+frames-actor script wavs session capture stage a is own = grind (arith, nat_tests)
 
 pub frames-card : (script : Script) (wavs : List Sound) (session : Session) (capture : Option Sound) (stage : Stage) (P : CardActor → Type 0) (card : Option CardActor)
     → IsSessionOf script wavs session → ((a : CardActor) → P a → IsCardIn session capture stage a) → IsSomeAnd card P
@@ -40,9 +30,7 @@ frames-card script wavs session capture stage P (Some a) is in_card own = frames
 -- the card of a lab
 frames-lab : (start : Start) (stops : Stops) (lab : Lab) (files : Option Files) (taken : Option (List ℕ)) → (is : IsStoppedAt start stops lab files taken)
     → length (played_of lab) ≡ (is.stage.position - first_frame start.input.script.card) * start.input.script.card.channels
-frames-lab start stops lab files taken is =
-    frames-card start.input.script start.input.sounds (session_of lab) (capture_of lab) is.stage
-    (IsCardOf (session_of lab) (capture_of lab) is.stage lab.clients lab.readers) lab.card is.lab_is.script_is.session_is (λ a is_card. is_card.is) is.lab_is.stage_is.actors.card_is
+frames-lab start stops lab files taken is = grind (arith, nat_tests)
 
 -- ---- the report's text
 
@@ -85,13 +73,7 @@ pub stops-in_rows : (start : Start) (lab : Lab) (others : List Item) (stage : St
     → outputs ≡ output_files start.input.script start.out → files ≡ option_map (unfinished_files outputs (sounds_at lab stage)) start.files
     → TookPart start.taken taken (text_so_far start.input.script stage.rows)
     → RowsFollowFrames start.input start.out (session_of lab) others stage (sounds_at lab stage) start.files files start.taken taken
-stops-in_rows start lab others stage outputs files taken own are part =
-    let rows : StopsInRows start.input.script start.out stage (sounds_at lab stage) start.files files start.taken taken =
-    record {
-      files = are ∙ ap (λ (outs : List OutputFile). option_map (unfinished_files outs (sounds_at lab stage)) start.files) own;
-      text = part;
-    } in
-    inr (inr (inl rows))
+stops-in_rows start lab others stage outputs files taken own are part = grind (arith, nat_tests)
 
 -- nothing was written since all that its lab holds was written
 pub IsStoppedAt-playing : (start : Start) (stops : Stops) (at : Scene) → IsPlaying start stops at → IsStoppedAt start stops at.lab at.files at.taken

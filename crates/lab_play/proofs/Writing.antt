@@ -39,17 +39,15 @@ count-at (sound ∷ sounds) (suc number) = count-at sounds number
 -- there are as many outputs
 pub longer-length : (sounds targets : List (List ℤ)) → AreLonger sounds targets → length targets ≡ length sounds
 longer-length [] [] longer = refl
-longer-length [] (target ∷ targets) longer = absurd longer
-longer-length (sound ∷ sounds) [] longer = absurd longer
 longer-length (sound ∷ sounds) (target ∷ targets) longer = ap suc (longer-length sounds targets longer.1)
+longer-length sounds targets longer = absurd longer
 
 -- the samples of one of them
 longer-at : (sounds targets : List (List ℤ)) (number : ℕ) → AreLonger sounds targets → IsPartOf (get_or sounds number []) (get_or targets number [])
 longer-at [] [] number longer = (0, refl)
-longer-at [] (target ∷ targets) number longer = absurd longer
-longer-at (sound ∷ sounds) [] number longer = absurd longer
 longer-at (sound ∷ sounds) (target ∷ targets) zero longer = longer.0
 longer-at (sound ∷ sounds) (target ∷ targets) (suc number) longer = longer-at sounds targets number longer.1
+longer-at sounds targets number longer = absurd longer
 
 -- so many of the first outputs have their new samples, and the rest those from before
 abbrev pub caught_up : ℕ → List (List ℤ) → List (List ℤ) → List (List ℤ)
@@ -62,31 +60,26 @@ caught_up (suc number) (sound ∷ sounds) (target ∷ targets) = target ∷ caug
 caught_up-longer : (number : ℕ) (sounds targets : List (List ℤ)) → AreLonger sounds targets → AreLonger (caught_up number sounds targets) targets
 caught_up-longer zero sounds targets longer = longer
 caught_up-longer (suc number) [] [] longer = tt
-caught_up-longer (suc number) [] (target ∷ targets) longer = absurd longer
-caught_up-longer (suc number) (sound ∷ sounds) [] longer = absurd longer
 caught_up-longer (suc number) (sound ∷ sounds) (target ∷ targets) longer = (IsPartOf-same target, caught_up-longer number sounds targets longer.1)
+caught_up-longer number sounds targets longer = absurd longer
 
 -- the next one gets its new samples
 caught_up-set : (number : ℕ) (sounds targets : List (List ℤ)) → AreLonger sounds targets → number < length targets
     → set (caught_up number sounds targets) number (get_or targets number []) ≡ caught_up (suc number) sounds targets
 caught_up-set number sounds [] longer within = absurd (omega (arith, within))
-caught_up-set zero [] (target ∷ targets) longer within = absurd longer
 caught_up-set zero (sound ∷ sounds) (target ∷ targets) longer within = refl
-caught_up-set (suc number) [] (target ∷ targets) longer within = absurd longer
+caught_up-set number [] (target ∷ targets) longer within = absurd longer
 caught_up-set (suc number) (sound ∷ sounds) (target ∷ targets) longer within =
     ap (λ (rest : List (List ℤ)). target ∷ rest) (caught_up-set number sounds targets longer.1 (omega (arith, within)))
 
 -- all of them have their new samples
 caught_up-all : (number : ℕ) (sounds targets : List (List ℤ)) → AreLonger sounds targets → length targets ≤ number → caught_up number sounds targets ≡ targets
 caught_up-all zero [] [] longer all = refl
-caught_up-all zero [] (target ∷ targets) longer all = absurd longer
-caught_up-all zero (sound ∷ sounds) [] longer all = absurd longer
 caught_up-all zero (sound ∷ sounds) (target ∷ targets) longer all = absurd (omega (arith, all))
 caught_up-all (suc number) [] [] longer all = refl
-caught_up-all (suc number) [] (target ∷ targets) longer all = absurd longer
-caught_up-all (suc number) (sound ∷ sounds) [] longer all = absurd longer
 caught_up-all (suc number) (sound ∷ sounds) (target ∷ targets) longer all =
     ap (λ (rest : List (List ℤ)). target ∷ rest) (caught_up-all number sounds targets longer.1 (omega (arith, all)))
+caught_up-all number sounds targets longer all = absurd longer
 
 -- ---- an append to one output
 

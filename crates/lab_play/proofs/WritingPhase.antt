@@ -1,9 +1,9 @@
 -- What a phase writes: that it fits into WAV files and a report, and what the run is once it is written, or where that stopped.
-use Rattle.lab_play.specs.Prelude.{ap, arith, get_or, inl, inr, map, refl, subst, suc, sym, take, zero, ◌<◌, ◌∙◌, ◌≤◌, take-length, get_or_default, length-map}
-use Rattle.lab_play.specs.Prelude.{All, Err, length, List, Ok, OnErr, OnOk, Option, Result, ℕ, ℤ, [], ◌++◌, ◌≡◌, Changes, TookPart-all, Files, TookPart, Row}
-use Rattle.lab_play.specs.Prelude.{Script, IsRowOf, outcome_of, recorded_from, Stage, Lab, capture_of, IsAtStage, IsCardOf, played_of, rows_of, session_of}
-use Rattle.lab_play.specs.Prelude.{Stops, StagesAreReported, OutputFile, Outputs, AreApart, IsOutputFile, MayHold, output_files, AreLonger, AreOutputs}
-use Rattle.lab_play.specs.Prelude.{FitsWavFile, IsGoingOn, rows_text, text_so_far, GoesOn, HasUnwrittenPhase, IsStoppedAt, scene, sounds_at, Start}
+use Rattle.lab_play.specs.Prelude.{ap, arith, get_or, inl, inr, map, refl, subst, suc, sym, take, zero, ◌<◌, ◌∙◌, ◌≤◌, take-length, nat_tests, get_or_default}
+use Rattle.lab_play.specs.Prelude.{length-map, All, Err, length, List, Ok, OnOk, Option, Result, ℕ, ℤ, [], ◌++◌, ◌≡◌, Changes, TookPart-all, Files, TookPart}
+use Rattle.lab_play.specs.Prelude.{Row, Script, IsRowOf, outcome_of, recorded_from, Stage, Lab, capture_of, IsAtStage, IsCardOf, played_of, rows_of, session_of}
+use Rattle.lab_play.specs.Prelude.{Stops, StagesAreReported, OutputFile, Outputs, MayHold, output_files, AreLonger, AreOutputs, FitsWavFile, IsGoingOn}
+use Rattle.lab_play.specs.Prelude.{rows_text, text_so_far, GoesOn, HasUnwrittenPhase, IsStoppedAt, scene, sounds_at, Start}
 use Rattle.std.proofs.Common.{option_map}
 use Rattle.run_laws.specs.Sizes.{HasSizes, StagesHaveSizes}
 use Rattle.lab_output.specs.Laws.{text_so_far-next, text_so_far-part}
@@ -74,15 +74,6 @@ can-put start stops script lab outputs files taken rows reported same rows_are i
 
 -- ---- where it stopped
 
--- a clause on a call that failed, where the fact holds anyway
-pub OnErr-always : {X E : Type 0} (P : Type 0) (r : Result X E) → P → OnErr r P
-OnErr-always P (Ok x) is = tt
-OnErr-always P (Err e) is = is
-
-pub OnErr-more : {X E : Type 0} (P Q : Type 0) (r : Result X E) → (P → Q) → OnErr r P → OnErr r Q
-OnErr-more P Q (Ok x) more is = tt
-OnErr-more P Q (Err e) more is = more is
-
 -- two clauses on a call that is done
 pub OnOk-both : {X E : Type 0} (P Q R : Type 0) (r : Result X E) → (P → Q → R) → OnOk r P → OnOk r Q → OnOk r R
 OnOk-both P Q R (Ok x) more is also = more is also
@@ -120,9 +111,7 @@ module _ (start : Start) (stops : Stops) (lab : Lab) (outputs : Outputs) (files 
   stops-putting script after rows taken_after same goes_on files_are number_is rows_are part =
       let going = goes_on start.files is.stage is.sounds is.lab_is.stage_is is.longer is.written.going_on in
       let text : TookPart taken taken_after (rows_text start.input.script outputs.rows is.stage.rows) =
-      subst (λ (s : Script). TookPart taken taken_after (rows_text s outputs.rows is.stage.rows)) (sym same ∙ is.lab_is.script_is.script_is)
-      (subst (λ (rs : List Row). TookPart taken taken_after (rows_text script outputs.rows rs)) (rows_are ∙ is.lab_is.stage_is.rows)
-      (subst (λ (n : ℕ). TookPart taken taken_after (rows_text script n rows)) number_is part)) in
+      rw (number_is, rows_are ∙ is.lab_is.stage_is.rows, sym same ∙ is.lab_is.script_is.script_is) at part in
       let all : TookPart start.taken taken_after (text_so_far start.input.script is.stage.rows) =
       text_so_far-part start.input.script outputs.rows is.stage.rows start.taken taken taken_after is.written.text text in
       IsStoppedAt-rows start stops lab is.stage files_after taken_after is.lab_is own-changes all
@@ -133,12 +122,7 @@ module _ (start : Start) (stops : Stops) (lab : Lab) (outputs : Outputs) (files 
 
 -- outputs of the same files and counts
 same-outputs : (a b : Outputs) → b.files ≡ a.files → b.samples ≡ a.samples → AreOutputs a → AreOutputs b
-same-outputs a b files samples are = record {
-  files = subst (λ v. All IsOutputFile v.items) (sym files) are.files;
-  apart = subst (λ v. AreApart v.items) (sym files) are.apart;
-  number = ap (λ v. length v.items) samples ∙ (are.number ∙ sym (ap (λ v. length v.items) files));
-  few = subst (λ v. All FitsWavFile v.items) (sym samples) are.few;
-}
+same-outputs a b files samples are = grind (arith, nat_tests)
 
 -- outputs that were appended to, and that go on as they are but for the count of rows
 pub record IsCaughtUp (lab : Lab) (outputs after last : Outputs) (shelf shelf_after : Option Files) : Type 0 where
@@ -159,10 +143,7 @@ catches-up start stops script lab outputs after last files files_after taken tak
     let own_rows : rows ≡ is.stage.rows = rows_are ∙ is.lab_is.stage_is.rows in
     let all : last.rows ≡ length is.stage.rows = count ∙ ap length own_rows in
     let going = caught.going_on start.files is.stage is.sounds is.lab_is.stage_is is.longer is.written.going_on in
-    let put : taken_after ≡ option_map (λ t. t ++ rows_text start.input.script outputs.rows is.stage.rows) taken =
-    subst (λ (s : Script). taken_after ≡ option_map (λ t. t ++ rows_text s outputs.rows is.stage.rows) taken) own_script
-    (subst (λ (rs : List Row). taken_after ≡ option_map (λ t. t ++ rows_text script outputs.rows rs) taken) own_rows
-    (subst (λ (n : ℕ). taken_after ≡ option_map (λ t. t ++ rows_text script n rows) taken) caught.rows text)) in
+    let put : taken_after ≡ option_map (λ t. t ++ rows_text start.input.script outputs.rows is.stage.rows) taken = rw (caught.rows, own_rows, own_script) at text in
     let whole : taken_after ≡ option_map (λ t. t ++ text_so_far start.input.script is.stage.rows) start.taken =
     text_so_far-next start.input.script outputs.rows is.stage.rows start.taken taken taken_after is.written.text put in
     record {
@@ -172,8 +153,7 @@ catches-up start stops script lab outputs after last files files_after taken tak
         written = record {
           outputs_are = same-outputs after last caught.last_files caught.last_samples caught.outputs_are;
           files_are = ap (λ v. v.items) (caught.last_files ∙ caught.files) ∙ is.written.files_are;
-          going_on = subst (λ fs. IsGoingOn fs.items last.samples.items (sounds_at lab is.stage) start.files files_after) (sym caught.last_files)
-              (subst (λ ns. IsGoingOn after.files.items ns.items (sounds_at lab is.stage) start.files files_after) (sym caught.last_samples) going);
+          going_on = rw (caught.last_files, caught.last_samples) going;
           few = subst (λ (n : ℕ). n ≤ length is.stage.rows) (sym all) (omega arith);
           text = whole ∙ ap (λ (rs : List Row). option_map (λ t. t ++ text_so_far start.input.script rs) start.taken)
               (sym (take-length is.stage.rows) ∙ ap (λ (n : ℕ). take n is.stage.rows) (sym all));

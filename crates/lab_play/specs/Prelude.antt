@@ -2,6 +2,7 @@
 pub use Rattle.std.proofs.Common.{ap, append_assoc, arith, FitsSigned, get_or, inl, inr, map, pos, refl, rules, subst, suc, sym, take, w16, zero, ◌-◌, ◌<◌, ◌∙◌}
 pub use Rattle.std.proofs.Common.{◌≢◌, ◌≤◌}
 pub use Rattle.std.proofs.Math.Seq.{take-append_seam, take-length}
+pub use Rattle.std.proofs.lemmas.Bool.Decides.{nat_tests}
 pub use Rattle.std.proofs.lemmas.List.{append-nil, get_or_default, length-append, length-map, length-take, take-append-drop, take-append-le, take_all, take_min}
 pub use Rattle.std.proofs.lemmas.List.Concat.{flat_map-append}
 pub use Rattle.std.proofs.lemmas.List.Elements.{All-more}
@@ -49,12 +50,12 @@ pub use Rattle.lab_stop.specs.OutputLaws.{StoresAndPuts-nothing, StoresAndPuts-p
 pub use Rattle.lab_input.specs.Input.{RunInput}
 pub use Rattle.lab_output.specs.declared.file.OutputFile.{OutputFile}
 pub use Rattle.lab_output.specs.declared.outputs.Outputs.{Outputs}
-pub use Rattle.lab_output.specs.Files.{AreApart, finished_files, IsOutputFile, MayHold, nothing, output_files, recorded_file, unfinished_files}
+pub use Rattle.lab_output.specs.Files.{finished_files, MayHold, nothing, output_files, recorded_file, unfinished_files}
 pub use Rattle.lab_output.specs.Going.{AreLonger, AreOutputs, FitsWavFile, IsGoingOn, IsPartOf, KeepSamples}
 pub use Rattle.lab_output.specs.GoingLaws.{AreLonger-same, IsGoingOn-Changes}
 pub use Rattle.lab_output.specs.Text.{head_text, rows_text, tail_from, text_so_far}
 pub use Rattle.lab_play.specs.Ends.{EndsAt, EndsWith, IsNewRun, StopsAtEnd}
-pub use Rattle.lab_play.specs.Order.{RowsFollowFrames, StopsInFrames, StopsInHeads, StopsInRows, StopsInTail}
+pub use Rattle.lab_play.specs.Order.{RowsFollowFrames, StopsInFrames, StopsInHeads, StopsInTail}
 pub use Rattle.lab_play.specs.Played.{HasPlayedAsking, HasPlayedPart, sounds_of}
 pub use Rattle.lab_play.specs.Playing.{AreWritten, GoesOn, GoesOnWriting, HasStopped, HasUnwrittenPhase, IsLabOf, IsPlaying, IsStopped, IsStoppedAt, Scene}
 pub use Rattle.lab_play.specs.Playing.{scene, sounds_at, Start, StaysWritten, StopsAt, StopsWritingPhase, text_at, WritesPhase}

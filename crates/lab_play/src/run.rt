@@ -137,33 +137,13 @@ fn rings_of(alloc: Global, geometry: Geometry, places: u32) -> Result<Rings, Sto
     ensures snoop { IfOk result (λ rings. snoop.IsNewRing rings.snoop geometry) }
     ensures only { IfErr result (λ stop. stop ≡ stops.Memory) }
 {
-    let sum = sum_ring(alloc, geometry, places)?;
-    let snoop = snoop_ring(alloc, geometry)?;
+    let Ok(sum) = SumRing::new(alloc, geometry, places) else {
+        return Err(Stop::Memory);
+    };
+    let Ok(snoop) = SnoopRing::new(alloc, geometry) else {
+        return Err(Stop::Memory);
+    };
     Ok(Rings { sum, snoop })
-}
-
-/// The sum ring of a card, with nothing placed.
-fn sum_ring(alloc: Global, geometry: Geometry, places: u32) -> Result<SumRing, Stop>
-    requires least { 1 ≤ places }
-    requires most { places ≤ 64 }
-    ensures ok { IfOk result (λ ring. sum.IsNewRing ring geometry places) }
-    ensures only { IfErr result (λ stop. stop ≡ stops.Memory) }
-{
-    match SumRing::new(alloc, geometry, places) {
-        Ok(ring) => Ok(ring),
-        Err(_) => Err(Stop::Memory),
-    }
-}
-
-/// The snoop ring of a card, with nothing captured.
-fn snoop_ring(alloc: Global, geometry: Geometry) -> Result<SnoopRing, Stop>
-    ensures ok { IfOk result (λ ring. snoop.IsNewRing ring geometry) }
-    ensures only { IfErr result (λ stop. stop ≡ stops.Memory) }
-{
-    match SnoopRing::new(alloc, geometry) {
-        Ok(ring) => Ok(ring),
-        Err(_) => Err(Stop::Memory),
-    }
 }
 
 /// Begins what is written, does all items of the script's body, and ends what is written.

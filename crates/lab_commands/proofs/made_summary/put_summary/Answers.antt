@@ -28,27 +28,19 @@ returns-in_err-text-clause-part g c =
       text = TookPart-nothing (g.K.Sink.taken c.args.out.now) (summary_text c.summary_of-summary.result);
     })
 
-pub returns-clause-done : goal.returns-clause-done
-returns-clause-done g c =
-    on_ok_weaker c.put.result
-    (λ text. put-all c.args.workload.now (outcome_in c.args.outcome.now) c.summary_of-summary.result c.as_bytes.result.now (g.K.Sink.taken c.args.out.now) (g.K.Sink.taken c.put.new.out)
-    (summary-of c.args.workload.now (outcome_in c.args.outcome.now) c.as_slice.result.now c.summary_of-summary.result c.as_slice.ensures.value c.summary_of-summary.ensures)
-    (c.as_bytes.ensures.value ∙ c.in_ok-text.ensures.ok) text)
-    c.put.ensures.puts_text.taken
-
-pub returns-clause-part : goal.returns-clause-part
-returns-clause-part g c =
-    on_err_weaker c.put.result
-    (λ text. put-part c.args.workload.now (outcome_in c.args.outcome.now) c.summary_of-summary.result c.as_bytes.result.now (g.K.Sink.taken c.args.out.now) (g.K.Sink.taken c.put.new.out)
-    (summary-of c.args.workload.now (outcome_in c.args.outcome.now) c.as_slice.result.now c.summary_of-summary.result c.as_slice.ensures.value c.summary_of-summary.ensures)
-    (c.as_bytes.ensures.value ∙ c.in_ok-text.ensures.ok) text)
-    c.put.ensures.puts_text.text
-
-pub returns-clause-only : goal.returns-clause-only
-returns-clause-only g c = c.put.ensures.puts_text.only
-
-pub returns-clause-faults : goal.returns-clause-faults
-returns-clause-faults g c = c.put.ensures.puts_text.faults
-
-pub returns-clause-reliable : goal.returns-clause-reliable
-returns-clause-reliable g c = c.put.ensures.puts_text.reliable
+pub returns : goal.returns
+returns g c = record {
+  done = on_ok_weaker c.put.result
+      (λ text. put-all c.args.workload.now (outcome_in c.args.outcome.now) c.summary_of-summary.result c.as_bytes.result.now (g.K.Sink.taken c.args.out.now) (g.K.Sink.taken c.put.new.out)
+      (summary-of c.args.workload.now (outcome_in c.args.outcome.now) c.as_slice.result.now c.summary_of-summary.result c.as_slice.ensures.value c.summary_of-summary.ensures)
+      (c.as_bytes.ensures.value ∙ c.in_ok-text.ensures.ok) text)
+      c.put.ensures.puts_text.taken;
+  part = on_err_weaker c.put.result
+      (λ text. put-part c.args.workload.now (outcome_in c.args.outcome.now) c.summary_of-summary.result c.as_bytes.result.now (g.K.Sink.taken c.args.out.now) (g.K.Sink.taken c.put.new.out)
+      (summary-of c.args.workload.now (outcome_in c.args.outcome.now) c.as_slice.result.now c.summary_of-summary.result c.as_slice.ensures.value c.summary_of-summary.ensures)
+      (c.as_bytes.ensures.value ∙ c.in_ok-text.ensures.ok) text)
+      c.put.ensures.puts_text.text;
+  only = c.put.ensures.puts_text.only;
+  faults = c.put.ensures.puts_text.faults;
+  reliable = c.put.ensures.puts_text.reliable;
+}

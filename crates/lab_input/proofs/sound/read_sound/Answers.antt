@@ -1,6 +1,6 @@
-use Rattle.lab_input.specs.Prelude.{ap, arith, inl, inr, length, refl, sym, true, ℕ, [], ◌++◌, ◌<◌, ◌∙◌, ◌≡◌, ◌⊎◌, length-append, Ok, AnswersFrom-passed}
-use Rattle.lab_input.specs.Prelude.{IsSameShelf-reads, IsSameShelf-same, IsSameShelf-then, OnlyReads-after, OnlyReads-done, OnlyReads-passed}
-use Rattle.std.proofs.lemmas.Bool.Decides.{nat_tests}
+use Rattle.lab_input.specs.Prelude.{ap, arith, inl, inr, length, refl, sym, true, ℕ, [], ◌++◌, ◌<◌, ◌∙◌, ◌≡◌, ◌⊎◌, nat_tests, length-append, Ok}
+use Rattle.lab_input.specs.Prelude.{AnswersFrom-passed, IsSameShelf-reads, IsSameShelf-same, IsSameShelf-then, OnlyReads-after, OnlyReads-done}
+use Rattle.lab_input.specs.Prelude.{OnlyReads-passed}
 use Rattle.lab_input.proofs.Plugging.{sound_file-short}
 use Rattle.lab_input.proofs.Reading.{Misses-wav, OnlyReads-wav, reading-next, reading-refused, reading-ok, reading-err, wav_in-missing}
 use Rattle.lab_input.proofs.sound.read_sound.Goals.{then-loop-is_last-test+else-length-le-WAV_MOST, else-loop-is_last-test}

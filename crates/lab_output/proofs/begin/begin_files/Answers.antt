@@ -1,4 +1,5 @@
-use Rattle.lab_output.specs.Prelude.{refl, err_from_is_err_and, CountsNoFault-same, CountsNoFault-writes, OnlyWrites-after, OnlyWrites-done, OnlyWrites-passed}
+use Rattle.lab_output.specs.Prelude.{refl, rules, err_from_is_err_and, CountsNoFault-same, CountsNoFault-writes, OnlyWrites-after, OnlyWrites-done}
+use Rattle.lab_output.specs.Prelude.{OnlyWrites-passed}
 use Rattle.lab_output.proofs.Steps.{Opening-next, Opening-stop, Opening-all}
 use Rattle.lab_output.proofs.begin.begin_files.Goals as goal
 
@@ -10,22 +11,19 @@ loop-file-preserved g c =
     Opening-next g.S.Shelf _ _ _ _ _ c.file-item.result c.loop-file.invariant c.loop-file-test.true c.file-item.is
     c.in_ok-begin_file.ensures.opened (CountsNoFault-writes g.S.Shelf _ _ _ c.in_ok-begin_file.ensures.only_writes)
 
-pub returns-in_err-begin_file-clause-part : goal.returns-in_err-begin_file-clause-part
-returns-in_err-begin_file-clause-part g c =
+pub returns-in_err-begin_file : goal.returns-in_err-begin_file
+returns-in_err-begin_file g c =
     let p = err_from_is_err_and c.from_residual.result c.from_residual.ensures.1 in
-    rw p.1
-    (Opening-stop g.S.Shelf _ _ _ _ _ c.file-item.result c.loop-file.invariant c.loop-file-test.true c.file-item.is
-    c.in_err-begin_file.ensures.part)
-
-pub returns-in_err-begin_file-clause-only_writes : goal.returns-in_err-begin_file-clause-only_writes
-returns-in_err-begin_file-clause-only_writes g c =
-    OnlyWrites-passed g.S.Shelf c.from_residual.result c.in_err-begin_file.field-0.0 _ _ c.from_residual.ensures.1
-    (OnlyWrites-after g.S.Shelf _ _ _ _ c.loop-file.invariant.counts c.in_err-begin_file.ensures.only_writes)
-
-pub returns-in_err-begin_file-clause-never : goal.returns-in_err-begin_file-clause-never
-returns-in_err-begin_file-clause-never g c reliable =
-    let p = err_from_is_err_and c.from_residual.result c.from_residual.ensures.1 in
-    rw (p.1, p.2) (c.in_err-begin_file.ensures.never (c.loop-file.invariant.counts.reliable reliable))
+    record {
+      opened = search rules;
+      part = rw p.1
+          (Opening-stop g.S.Shelf _ _ _ _ _ c.file-item.result c.loop-file.invariant c.loop-file-test.true c.file-item.is
+          c.in_err-begin_file.ensures.part);
+      only_writes = OnlyWrites-passed g.S.Shelf c.from_residual.result c.in_err-begin_file.field-0.0 _ _ c.from_residual.ensures.1
+          (OnlyWrites-after g.S.Shelf _ _ _ _ c.loop-file.invariant.counts c.in_err-begin_file.ensures.only_writes);
+      never = λ reliable.
+          rw (p.1, p.2) (c.in_err-begin_file.ensures.never (c.loop-file.invariant.counts.reliable reliable));
+    }
 
 pub returns-clause-opened : goal.returns-clause-opened
 returns-clause-opened g c = Opening-all g.S.Shelf _ _ _ _ c.loop-file.invariant c.loop-file-test.false

@@ -1,6 +1,7 @@
-use Rattle.lab_output.specs.Prelude.{refl, err_from_is_err_and, CountsNoFault-same, CountsNoFault-writes, OnlyWrites-after, OnlyWrites-done, OnlyWrites-passed}
-use Rattle.lab_output.proofs.Held.{file-at}
-use Rattle.lab_output.proofs.Steps.{Closing-next, Closing-stop, Closing-all, room-at}
+use Rattle.lab_output.specs.Prelude.{refl, rules, err_from_is_err_and, CountsNoFault-same, CountsNoFault-writes, OnlyWrites-after, OnlyWrites-done}
+use Rattle.lab_output.specs.Prelude.{OnlyWrites-passed, OutputFile, HasFile, HasHeadRoom}
+use Rattle.lab_output.proofs.Held.{output-at}
+use Rattle.lab_output.proofs.Steps.{Closing-next, Closing-stop, Closing-all}
 use Rattle.lab_output.proofs.finish.finish_files.Goals as goal
 
 pub loop-number-init : goal.loop-number-init
@@ -9,7 +10,7 @@ loop-number-init g c =
 
 pub finish_file-requires-clause-room : goal.finish_file-requires-clause-room
 finish_file-requires-clause-room g c =
-    room-at _ _ _ c.index-files-number.result c.loop-number.invariant.rooms c.loop-number-test.true c.index-files-number.is
+    output-at (λ (o : OutputFile). HasHeadRoom (g.S.Shelf.files c.loop-number.shelf) o.name) _ _ c.index-files-number.result c.loop-number.invariant.rooms c.loop-number-test.true c.index-files-number.is
 
 pub loop-number-preserved : goal.loop-number-preserved
 loop-number-preserved g c =
@@ -17,24 +18,21 @@ loop-number-preserved g c =
     c.index-files-number.is refl c.in_ok-finish_file.ensures.closed
     (CountsNoFault-writes g.S.Shelf _ _ _ c.in_ok-finish_file.ensures.only_writes)
 
-pub returns-in_err-finish_file-clause-part : goal.returns-in_err-finish_file-clause-part
-returns-in_err-finish_file-clause-part g c =
+pub returns-in_err-finish_file : goal.returns-in_err-finish_file
+returns-in_err-finish_file g c =
     let p = err_from_is_err_and c.from_residual.result c.from_residual.ensures.1 in
-    rw p.1
-    (Closing-stop g.S.Shelf _ _ _ _ _ _ c.index-files-number.result _ c.loop-number.invariant c.loop-number-test.true c.requires.number
-    c.index-files-number.is refl c.in_err-finish_file.ensures.part)
-
-pub returns-in_err-finish_file-clause-only_writes : goal.returns-in_err-finish_file-clause-only_writes
-returns-in_err-finish_file-clause-only_writes g c =
-    OnlyWrites-passed g.S.Shelf c.from_residual.result c.in_err-finish_file.field-0.0 _ _ c.from_residual.ensures.1
-    (OnlyWrites-after g.S.Shelf _ _ _ _ c.loop-number.invariant.counts c.in_err-finish_file.ensures.only_writes)
-
-pub returns-in_err-finish_file-clause-never : goal.returns-in_err-finish_file-clause-never
-returns-in_err-finish_file-clause-never g c reliable there =
-    let p = err_from_is_err_and c.from_residual.result c.from_residual.ensures.1 in
-    rw (p.1, p.2)
-    (c.in_err-finish_file.ensures.never (c.loop-number.invariant.counts.reliable reliable)
-    (file-at _ _ _ c.index-files-number.result (c.loop-number.invariant.there there) c.loop-number-test.true c.index-files-number.is))
+    record {
+      closed = search rules;
+      part = rw p.1
+          (Closing-stop g.S.Shelf _ _ _ _ _ _ c.index-files-number.result _ c.loop-number.invariant c.loop-number-test.true c.requires.number
+          c.index-files-number.is refl c.in_err-finish_file.ensures.part);
+      only_writes = OnlyWrites-passed g.S.Shelf c.from_residual.result c.in_err-finish_file.field-0.0 _ _ c.from_residual.ensures.1
+          (OnlyWrites-after g.S.Shelf _ _ _ _ c.loop-number.invariant.counts c.in_err-finish_file.ensures.only_writes);
+      never = λ reliable there.
+          rw (p.1, p.2)
+          (c.in_err-finish_file.ensures.never (c.loop-number.invariant.counts.reliable reliable)
+          (output-at (λ (o : OutputFile). HasFile (g.S.Shelf.files c.loop-number.shelf) o.name) _ _ c.index-files-number.result (c.loop-number.invariant.there there) c.loop-number-test.true c.index-files-number.is));
+    }
 
 pub returns-clause-closed : goal.returns-clause-closed
 returns-clause-closed g c = Closing-all g.S.Shelf _ _ _ _ _ c.loop-number.invariant c.loop-number-test.false

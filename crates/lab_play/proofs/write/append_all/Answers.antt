@@ -30,25 +30,31 @@ append-requires-clause-few g c =
     let within : c.loop-number.number < length targets = omega (arith, test, end, number) in
     few-at targets c.loop-number.number c.samples_of.result.now c.requires.few within (c.samples_of.ensures c.requires.stage c.requires.at)
 
-pub returns-in_err-append-clause-changes : goal.returns-in_err-append-clause-changes
-returns-in_err-append-clause-changes g c before stage sounds at longer going =
-    let targets : List (List ℤ) = sounds_at c.args.lab.now stage in
+pub returns-in_err-append : goal.returns-in_err-append
+returns-in_err-append g c =
     let inv = c.loop-number.invariant in
     let test = c.loop-number-test.true in
     let end = c.len-number-end.ensures in
     let same = ap (λ v. length v.items) inv.files in
     let within : c.loop-number.number < length c.loop-number.outputs.files.items = omega (arith, test, end, same) in
-    subst (λ v. Changes (MayHold v.items targets) before (g.S.Shelf.files c.append.new.shelf)) (c.append.ensures.files ∙ inv.files)
-    (appended-changes c.loop-number.outputs.files.items c.append.new.self.files.items c.loop-number.outputs.samples.items c.append.new.self.samples.items sounds targets
-    c.loop-number.number c.samples_of.result.now before (g.S.Shelf.files c.loop-number.shelf) (g.S.Shelf.files c.append.new.shelf) longer
-    (inv.going_on before stage sounds at longer going) within (c.samples_of.ensures stage at) c.append.ensures.changes)
-
-pub returns-in_err-append-clause-never : goal.returns-in_err-append-clause-never
-returns-in_err-append-clause-never g c before stage sounds at longer going known reliable =
-    let inv = c.loop-number.invariant in
-    let never : c.append.result ≢ Err stops.Write =
-    c.append.ensures.never before (caught_up c.loop-number.number sounds (sounds_at c.args.lab.now stage)) (inv.going_on before stage sounds at longer going) known (inv.counts.reliable reliable) in
-    search (rules, never)
+    record {
+      going_on = search rules;
+      changes = λ before stage sounds at longer going.
+          let targets : List (List ℤ) = sounds_at c.args.lab.now stage in
+          subst (λ v. Changes (MayHold v.items targets) before (g.S.Shelf.files c.append.new.shelf)) (c.append.ensures.files ∙ inv.files)
+          (appended-changes c.loop-number.outputs.files.items c.append.new.self.files.items c.loop-number.outputs.samples.items c.append.new.self.samples.items sounds targets
+          c.loop-number.number c.samples_of.result.now before (g.S.Shelf.files c.loop-number.shelf) (g.S.Shelf.files c.append.new.shelf) longer
+          (inv.going_on before stage sounds at longer going) within (c.samples_of.ensures stage at) c.append.ensures.changes);
+      outputs = c.append.ensures.outputs;
+      files = c.append.ensures.files ∙ c.loop-number.invariant.files;
+      rows = c.append.ensures.rows ∙ c.loop-number.invariant.rows;
+      only_writes = OnlyWrites-passed g.S.Shelf c.from_residual.result c.in_err-append.field-0.0 _ _ c.from_residual.ensures.1
+          (OnlyWrites-after g.S.Shelf _ _ _ _ c.loop-number.invariant.counts c.in_err-append.ensures.only_writes);
+      never = λ before stage sounds at longer going known reliable.
+          let never : c.append.result ≢ Err stops.Write =
+          c.append.ensures.never before (caught_up c.loop-number.number sounds (sounds_at c.args.lab.now stage)) (inv.going_on before stage sounds at longer going) known (inv.counts.reliable reliable) in
+          search (rules, never);
+    }
 
 pub loop-number-preserved : goal.loop-number-preserved
 loop-number-preserved g c =
@@ -68,52 +74,27 @@ loop-number-preserved g c =
       counts = CountsNoFault-then g.S.Shelf _ _ _ inv.counts (CountsNoFault-writes g.S.Shelf _ _ _ c.in_ok-append.ensures.only_writes);
     }
 
-pub returns-clause-going_on : goal.returns-clause-going_on
-returns-clause-going_on g c before stage sounds at longer going =
+pub returns : goal.returns
+returns g c =
     let inv = c.loop-number.invariant in
     let test = c.loop-number-test.false in
     let end = c.len-number-end.ensures in
     let same = ap (λ v. length v.items) inv.files in
     let all : length c.loop-number.outputs.files.items ≤ c.loop-number.number = omega (arith, test, end, same) in
-    all-going c.loop-number.outputs.files.items c.loop-number.outputs.samples.items sounds (sounds_at c.args.lab.now stage) c.loop-number.number before
-    (g.S.Shelf.files c.loop-number.shelf) longer all (inv.going_on before stage sounds at longer going)
-
-pub returns-clause-changes : goal.returns-clause-changes
-returns-clause-changes g c before stage sounds at longer going =
-    let inv = c.loop-number.invariant in
-    let targets : List (List ℤ) = sounds_at c.args.lab.now stage in
-    let test = c.loop-number-test.false in
-    let end = c.len-number-end.ensures in
-    let same = ap (λ v. length v.items) inv.files in
-    let all : length c.loop-number.outputs.files.items ≤ c.loop-number.number = omega (arith, test, end, same) in
-    subst (λ v. Changes (MayHold v.items targets) before (g.S.Shelf.files c.loop-number.shelf)) inv.files
-    (IsGoingOn-Changes c.loop-number.outputs.files.items c.loop-number.outputs.samples.items targets targets before (g.S.Shelf.files c.loop-number.shelf)
-    (all-going c.loop-number.outputs.files.items c.loop-number.outputs.samples.items sounds targets c.loop-number.number before (g.S.Shelf.files c.loop-number.shelf) longer all
-    (inv.going_on before stage sounds at longer going))
-    (AreLonger-same targets))
-
-pub returns-clause-outputs : goal.returns-clause-outputs
-returns-clause-outputs g c = c.loop-number.invariant.outputs_are
-
-pub returns-clause-files : goal.returns-clause-files
-returns-clause-files g c = c.loop-number.invariant.files
-
-pub returns-clause-rows : goal.returns-clause-rows
-returns-clause-rows g c = c.loop-number.invariant.rows
-
-pub returns-in_err-append-clause-outputs : goal.returns-in_err-append-clause-outputs
-returns-in_err-append-clause-outputs g c = c.append.ensures.outputs
-
-pub returns-in_err-append-clause-files : goal.returns-in_err-append-clause-files
-returns-in_err-append-clause-files g c = c.append.ensures.files ∙ c.loop-number.invariant.files
-
-pub returns-in_err-append-clause-rows : goal.returns-in_err-append-clause-rows
-returns-in_err-append-clause-rows g c = c.append.ensures.rows ∙ c.loop-number.invariant.rows
-
-pub returns-clause-only_writes : goal.returns-clause-only_writes
-returns-clause-only_writes g c = OnlyWrites-done g.S.Shelf _ _ _ c.loop-number.invariant.counts
-
-pub returns-in_err-append-clause-only_writes : goal.returns-in_err-append-clause-only_writes
-returns-in_err-append-clause-only_writes g c =
-    OnlyWrites-passed g.S.Shelf c.from_residual.result c.in_err-append.field-0.0 _ _ c.from_residual.ensures.1
-    (OnlyWrites-after g.S.Shelf _ _ _ _ c.loop-number.invariant.counts c.in_err-append.ensures.only_writes)
+    record {
+      going_on = λ before stage sounds at longer going.
+          all-going c.loop-number.outputs.files.items c.loop-number.outputs.samples.items sounds (sounds_at c.args.lab.now stage) c.loop-number.number before
+          (g.S.Shelf.files c.loop-number.shelf) longer all (inv.going_on before stage sounds at longer going);
+      changes = λ before stage sounds at longer going.
+          let targets : List (List ℤ) = sounds_at c.args.lab.now stage in
+          subst (λ v. Changes (MayHold v.items targets) before (g.S.Shelf.files c.loop-number.shelf)) inv.files
+          (IsGoingOn-Changes c.loop-number.outputs.files.items c.loop-number.outputs.samples.items targets targets before (g.S.Shelf.files c.loop-number.shelf)
+          (all-going c.loop-number.outputs.files.items c.loop-number.outputs.samples.items sounds targets c.loop-number.number before (g.S.Shelf.files c.loop-number.shelf) longer all
+          (inv.going_on before stage sounds at longer going))
+          (AreLonger-same targets));
+      outputs = c.loop-number.invariant.outputs_are;
+      files = c.loop-number.invariant.files;
+      rows = c.loop-number.invariant.rows;
+      only_writes = OnlyWrites-done g.S.Shelf _ _ _ c.loop-number.invariant.counts;
+      never = search rules;
+    }

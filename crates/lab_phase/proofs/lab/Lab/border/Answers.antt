@@ -1,4 +1,4 @@
-use Rattle.lab_phase.specs.Prelude.{◌∙◌, ◌≡◌, Item, Lab, DoesItem, played_of, OnErr-always, OnErr-both, OnOk-more, StaysAtStage, DoesItem-stays}
+use Rattle.lab_phase.specs.Prelude.{rules, ◌∙◌, ◌≡◌, Item, Lab, DoesItem, played_of, OnErr-always, OnErr-both, OnOk-more, StaysAtStage, DoesItem-stays}
 use Rattle.lab_phase.specs.Prelude.{IsNextItem-stays, StaysAtStage-joined}
 use Rattle.lab_phase.proofs.lab.Lab.border.Goals as goal
 
@@ -11,25 +11,16 @@ do_border-requires-clause-at c = record { stage = c.requires.at.stage; at = c.ta
 pub do_border-requires-clause-next : goal.do_border-requires-clause-next
 do_border-requires-clause-next c = IsNextItem-stays c.args.self.now c.take_row_room.new.self c.args.item.now c.take_row_room.ensures.kept c.requires.next
 
-pub returns-clause-does : goal.returns-clause-does
-returns-clause-does c =
+pub returns : goal.returns
+returns c =
     let lab : Lab = c.args.self.now in
     let mid : Lab = c.take_row_room.new.self in
     let after : Lab = c.do_border.new.self in
     let one : Item = c.args.item.now in
-    OnOk-more (DoesItem mid one after) (DoesItem lab one after) c.do_border.result (DoesItem-stays lab mid after one c.take_row_room.ensures.kept) c.do_border.ensures.does
-
-pub returns-clause-played : goal.returns-clause-played
-returns-clause-played c =
-    let lab : Lab = c.args.self.now in
-    let mid : Lab = c.take_row_room.new.self in
-    let after : Lab = c.do_border.new.self in
-    OnOk-more (played_of after ≡ played_of mid) (played_of after ≡ played_of lab) c.do_border.result (λ played. played ∙ c.take_row_room.ensures.kept.played) c.do_border.ensures.played
-
-pub returns-clause-kept : goal.returns-clause-kept
-returns-clause-kept c =
-    let lab : Lab = c.args.self.now in
-    let mid : Lab = c.take_row_room.new.self in
-    let after : Lab = c.do_border.new.self in
-    OnErr-both (StaysAtStage mid after) (StaysAtStage mid after) (StaysAtStage lab after) c.do_border.result
-    (λ stays same. StaysAtStage-joined lab mid after c.take_row_room.ensures.kept stays) c.do_border.ensures.kept c.do_border.ensures.kept
+    record {
+      does = OnOk-more (DoesItem mid one after) (DoesItem lab one after) c.do_border.result (DoesItem-stays lab mid after one c.take_row_room.ensures.kept) c.do_border.ensures.does;
+      played = OnOk-more (played_of after ≡ played_of mid) (played_of after ≡ played_of lab) c.do_border.result (λ played. played ∙ c.take_row_room.ensures.kept.played) c.do_border.ensures.played;
+      kept = OnErr-both (StaysAtStage mid after) (StaysAtStage mid after) (StaysAtStage lab after) c.do_border.result
+          (λ stays same. StaysAtStage-joined lab mid after c.take_row_room.ensures.kept stays) c.do_border.ensures.kept c.do_border.ensures.kept;
+      only = search rules;
+    }

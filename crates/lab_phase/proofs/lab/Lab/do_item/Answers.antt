@@ -20,20 +20,16 @@ close-requires-clause-actor c =
     subst (IsItem (length lab.script.now.clients) (length lab.script.now.readers)) c.in-Closes.is
     (IsItem-next lab c.args.item.now c.requires.at.at.has_done.reached.script_is c.requires.next)
 
-pub returns-in-Opens-clause-does : goal.returns-in-Opens-clause-does
-returns-in-Opens-clause-does c =
+pub returns-in-Opens : goal.returns-in-Opens
+returns-in-Opens c =
     let lab : Lab = c.args.self.now in
-    subst (λ (one : Item). IfOk c.open.result (λ row. DoesRow (λ stage. border_after (session_of lab) stage one) lab row c.open.new.self)) (sym c.in-Opens.is)
-    c.open.ensures.does
-
-pub returns-in-Opens-clause-played : goal.returns-in-Opens-clause-played
-returns-in-Opens-clause-played c = c.open.ensures.played
-
-pub returns-in-Opens-clause-kept : goal.returns-in-Opens-clause-kept
-returns-in-Opens-clause-kept c = c.open.ensures.kept
-
-pub returns-in-Opens-clause-only : goal.returns-in-Opens-clause-only
-returns-in-Opens-clause-only c = c.open.ensures.only
+    record {
+      does = subst (λ (one : Item). IfOk c.open.result (λ row. DoesRow (λ stage. border_after (session_of lab) stage one) lab row c.open.new.self)) (sym c.in-Opens.is)
+          c.open.ensures.does;
+      played = c.open.ensures.played;
+      kept = c.open.ensures.kept;
+      only = c.open.ensures.only;
+    }
 
 pub returns-in-Closes-clause-does : goal.returns-in-Closes-clause-does
 returns-in-Closes-clause-does c =

@@ -85,8 +85,8 @@ returns-in_err-run_together-clause-kept g c =
     } in
     OnErr-always _ kept
 
-pub reap-requires-clause-clients : goal.reap-requires-clause-clients
-reap-requires-clause-clients g c =
+pub reap-requires : goal.reap-requires
+reap-requires g c =
     let others : length (ops_by is_of_card c.args.lines.now) ≢ length c.args.lines.now = λ same. omega (arith, c.line_count.ensures.value, c.if-line_count-lines.false, same) in
     let lab : Lab = c.args.self.now in
     let laws : ActorLaws = record {
@@ -98,22 +98,10 @@ reap-requires-clause-clients g c =
     c.in_ok-run_together.ensures.run in
     let done = done-lines g.G.Gate c.args.gates.now c.run_together.new.gates lab mid c.args.lines.now laws c.requires.next others run c.requires.at.stage c.requires.at.base
     c.requires.at.at c.requires.at.counted in
-    record { session = session_of lab; held = held_of c.requires.at.stage; xs = done.next_clients; are = done.clients }
-
-pub reap-requires-clause-readers : goal.reap-requires-clause-readers
-reap-requires-clause-readers g c =
-    let others : length (ops_by is_of_card c.args.lines.now) ≢ length c.args.lines.now = λ same. omega (arith, c.line_count.ensures.value, c.if-line_count-lines.false, same) in
-    let lab : Lab = c.args.self.now in
-    let laws : ActorLaws = record {
-      clients = record { lasts = c.last_frames_are_own.ensures; parts = c.parts_are_runs.ensures.clients; alike = c.members_are_unreported.ensures.entries };
-      readers = c.parts_are_runs.ensures.readers;
-    } in
-    let mid : Lab = record lab { card = Some c.run_together.new.card; clients = c.run_together.new.clients; readers = c.run_together.new.readers; rows = c.run_together.new.rows } in
-    let run = HasRunLines-parts g.G.Gate c.args.gates.now c.run_together.new.gates lab c.args.lines.now c.in-Some.card c.run_together.new.card c.run_together.new.clients c.run_together.new.readers c.run_together.new.rows c.in-Some.is
-    c.in_ok-run_together.ensures.run in
-    let done = done-lines g.G.Gate c.args.gates.now c.run_together.new.gates lab mid c.args.lines.now laws c.requires.next others run c.requires.at.stage c.requires.at.base
-    c.requires.at.at c.requires.at.counted in
-    AreOfRing-done (session_of lab) (capture_of lab) done.next_readers c.run_together.new.readers done.readers
+    record {
+      clients = record { session = session_of lab; held = held_of c.requires.at.stage; xs = done.next_clients; are = done.clients };
+      readers = AreOfRing-done (session_of lab) (capture_of lab) done.next_readers c.run_together.new.readers done.readers;
+    }
 
 pub returns-clause-runs : goal.returns-clause-runs
 returns-clause-runs g c =

@@ -1,5 +1,6 @@
-use Rattle.lab_phase.specs.Prelude.{ap, arith, subst, sym, ◌+◌, ◌∙◌, Vec, IsSomeAnd, length, List, map, Option, ℕ, ℤ, ◌++◌, Segment, held_of, all_runs}
-use Rattle.lab_phase.specs.Prelude.{all_segments, recorded_from, Session, Stage, CardActor, Lab, capture_of, session_of, IsMixOf}
+use Rattle.lab_phase.specs.Prelude.{ap, arith, subst, sym, ◌+◌, ◌∙◌, Vec, IsSomeAnd, length, List, map, Option, ℕ, ℤ, ◌++◌, held_of, all_runs, all_segments}
+use Rattle.lab_phase.specs.Prelude.{recorded_from, Session, Stage, CardActor, Lab, capture_of, session_of, IsMixOf}
+use Rattle.snd_base.specs.declared.places.Segment.{Segment}
 use Rattle.lab_clients.specs.End.{all_segments-listed}
 use Rattle.lab_readers.specs.End.{all_runs-at}
 use Rattle.lab_phase.proofs.Ending.{HaveAllPlaces-at, may-end, outcome-at, played-mixed}

@@ -4,10 +4,10 @@ use Rattle.lab_phase.specs.Prelude.{session_with, has_readers, HasReportRoom, Ha
 use Rattle.sum_table.specs.declared.view.Key.{Key}
 use Rattle.card_player.specs.declared.player.CardPlayer.{CardPlayer}
 use Rattle.card_player.specs.Plays.{seat_of}
+use Rattle.lab_run.proofs.OneSession.{IsRingOf-unique}
 use Rattle.lab_phase.proofs.Beginning.{IsCardIn-new}
 use Rattle.lab_phase.proofs.FirstSetups.{AllFitCard-session, AreUsable-ring, first_frame-ring}
-use Rattle.lab_phase.proofs.Numbers.{AreClientOpenings-length, AreReaderOpenings-length}
-use Rattle.lab_phase.proofs.Rings.{IsRingOf-unique}
+use Rattle.lab_phase.proofs.StageLaws.{AreClientOpenings-length, AreReaderOpenings-length}
 use Rattle.snoop_table.specs.Readers as seats
 use Rattle.lab_phase.proofs.lab.Lab.new.Goals as goal
 
@@ -53,7 +53,7 @@ returns-clause-first c =
               first = first;
               share_is = refl;
             })
-            (AreClientOpenings-length script.card script.clients c.args.wavs.now session.clients is.clients ∙ ap length (sym c.as_slice.ensures));
+            ((AreClientOpenings-length script.card script.clients c.args.wavs.now session.clients is.clients).0 ∙ ap length (sym c.as_slice.ensures));
         readers_are = c.in_ok-readers.ensures.first session capture
             (record {
               card = record { ring = c.requires.one_shape ∙ shape; first = first };
